@@ -1,0 +1,6 @@
+pub mod Citing
+pub mod States
+pub mod Grounds
+pub mod Steps
+pub mod Models
+pub mod Made

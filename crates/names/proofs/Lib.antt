@@ -1,0 +1,3 @@
+pub mod Lexical
+pub mod Plain
+pub mod Numbers

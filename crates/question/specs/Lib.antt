@@ -1,0 +1,4 @@
+pub mod Blanks
+pub mod Asked
+pub mod Retests
+pub mod Trials

@@ -1,0 +1,4 @@
+pub mod Order
+pub mod Search
+pub mod Placing
+pub mod Rows

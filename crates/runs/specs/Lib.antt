@@ -1,0 +1,5 @@
+pub mod Lists
+pub mod Histories
+pub mod Contents
+pub mod Laws
+pub mod Calls
