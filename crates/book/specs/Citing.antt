@@ -1,4 +1,4 @@
--- What concepts and inclusions cite by number, and what a book demands of it. Nothing here names the book, whose file imports this.
+-- What concepts and inclusions cite by number, and what a book asks of it. Nothing here names the book, whose file imports this.
 use mathlib.Core.Path.{_≡_}
 use mathlib.Core.List.{List}
 use mathlib.Core.Bool.{false}

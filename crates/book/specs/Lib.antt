@@ -4,3 +4,4 @@ pub mod Grounds
 pub mod Steps
 pub mod Models
 pub mod Made
+pub mod Sound

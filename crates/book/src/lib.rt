@@ -10,14 +10,17 @@ use terms::concept::Inclusion;
 
 mod checks;
 mod entering;
+mod laws;
 mod making;
 mod naming;
 mod reading;
 mod table;
 
+pub use laws::every_book_is_sound;
+
 // The inclusions of a book by number, with their struck marks.
 #[derive(Drop)]
-pub struct InclusionTable {
+struct InclusionTable {
     records: Vec<Inclusion>,
 }
 

@@ -32,8 +32,8 @@ impl Book {
         requires { ⌜ 1 ≤ fineness ⌝ ∗ ⌜ fineness ≤ 1000 ⌝ }
         ensures { λ r. ⌜ made r (λ b. model b ≡ blank-book fineness) ⌝ }
     {
-        let headings = NameList::make(heap)?;
-        let roles = NameList::make(heap)?;
+        let headings = NameList::new(heap)?;
+        let roles = NameList::new(heap)?;
         let concepts = Vec::with_capacity(heap, 128)?;
         let records = Vec::with_capacity(heap, 64)?;
         Ok(Book {

@@ -1,3 +1,4 @@
 pub mod Lexical
 pub mod Plain
 pub mod Numbers
+pub mod Differing

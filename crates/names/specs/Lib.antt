@@ -4,3 +4,4 @@ pub mod Order
 pub mod Numbered
 pub mod Texts
 pub mod Entering
+pub mod Kept

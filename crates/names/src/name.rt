@@ -1,6 +1,7 @@
 // A name, and records of names.
+ghost use mathlib.Core.Path.{_≡_};
 ghost use Prim.Native.Nat.{ℕ, _<_, _≤_};
-ghost use lib.ListN.{getD};
+ghost use lib.ListN.{length, getD};
 ghost use Rattle.names.specs.Spelling.{Odd};
 
 mod order;
@@ -13,6 +14,7 @@ pub use order::RecordOrdered;
 pub struct Name {
     bytes: [u8; 12],
     len: usize,
+    ghost whole: { length bytes ≡ 12 },
     ghost some: { 0 < len },
     ghost fits: { len ≤ 12 },
     ghost plain: { ((k : ℕ) → k < len → Odd (getD bytes k 0) → ⊥) },

@@ -42,7 +42,7 @@ impl Question {
     pub fn len(&self) -> usize
         ensures { λ r. ⌜ r ≡ length (asked (now (self .entry))) ⌝ }
     {
-        self.count
+        self.lines().len()
     }
 
     // The lines, by number.

@@ -1,5 +1,7 @@
-// The vocabulary that every other crate shares: concepts, inclusions, question lines, refusals.
+// The vocabulary that every other crate shares: concepts, inclusions, question lines, the lines and entries of sheets, refusals.
 pub mod concept;
+pub mod entry;
+pub mod line;
 pub mod question;
 pub mod refusal;
 pub mod same;

@@ -21,7 +21,7 @@ pub impl Same for Concept as ConceptSame {
 
 pub impl Same for QuestionLine as QuestionLineSame {
     fn same(self, other: QuestionLine) -> bool {
-        self == other
+        other == self
     }
 }
 

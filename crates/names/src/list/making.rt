@@ -12,7 +12,7 @@ use std::alloc::Global;
 
 impl<const MOST: usize> NameList<MOST> {
     // The list without names, with room for all that there may be.
-    pub fn make(heap: Global) -> Result<NameList<MOST>, AllocError>
+    pub fn new(heap: Global) -> Result<NameList<MOST>, AllocError>
         ensures { λ r. ⌜ made r (λ l. texts l ≡ []) ⌝ }
     {
         let names = Vec::with_capacity(heap, MOST)?;

@@ -40,7 +40,8 @@ fn is_unfit(bytes: &[u8]) -> bool
 // The bytes, and zeros behind them.
 fn padded(bytes: &[u8]) -> [u8; 12]
     requires { ⌜ length (now bytes) ≤ 12 ⌝ }
-    ensures { λ r. ⌜ take (length (now (bytes .entry))) r ≡ now (bytes .entry) ⌝ }
+    ensures front { λ r. ⌜ take (length (now (bytes .entry))) r ≡ now (bytes .entry) ⌝ }
+    ensures whole { λ r. ⌜ length r ≡ 12 ⌝ }
 {
     let mut all = [0u8; 12];
     all[0..bytes.len()].copy_from_slice(bytes);

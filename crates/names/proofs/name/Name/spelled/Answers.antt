@@ -17,9 +17,9 @@ ghost-result c =
     let m = c .as-bytes-letters .result .now in
     let some : ¬ (length m ≡ 0) = λ h. fit c (inl h) in
     let few : ¬ (12 < length m) = λ h. fit c (inr (inl h)) in
-    (omega arith, (omega arith, (plain-front (c .padded .result) m (c .padded .ensures) (λ h. fit c (inr (inr h))), tt)))
+    (c .padded .ensures .whole, (omega arith, (omega arith, (plain-front (c .padded .result) m (c .padded .ensures .front) (λ h. fit c (inr (inr h))), tt))))
 
 pub returns : need.returns
 returns c =
     let same = c .as-bytes-letters .ensures .value in
-    (c .padded .ensures ∙ same, subst (λ m. ¬ NoName m) same (λ h. true≢false (sym (c .is-unfit .ensures .1 h) ∙ c .if-is-unfit .left)))
+    (c .padded .ensures .front ∙ same, subst (λ m. ¬ NoName m) same (λ h. true≢false (sym (c .is-unfit .ensures .1 h) ∙ c .if-is-unfit .left)))

@@ -3,7 +3,7 @@ use native.Mathlib.Omega.{arith}
 use mathlib.Core.Path.{ap}
 use lib.ListN.{length, length-replicate}
 use Rattle.names.proofs.Numbers.{kept-none}
-use Rattle.names.proofs.list.NameList.make.Needs as need
+use Rattle.names.proofs.list.NameList.new.Needs as need
 
 pub ghost-result : need.ghost-result
 ghost-result g c =

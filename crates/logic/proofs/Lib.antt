@@ -1,0 +1,17 @@
+pub mod Halves
+pub mod Degrees
+pub mod Rounds
+pub mod Members
+pub mod Keeping
+pub mod Unmet
+pub mod Truth
+pub mod Told
+pub mod Drawn
+pub mod LinesAgree
+pub mod MeetingAgrees
+pub mod ClosingAgrees
+pub mod Bounds
+pub mod ByLines
+pub mod StandingAgrees
+pub mod Reading
+pub mod Computed
