@@ -2,6 +2,7 @@
 pub mod concept;
 pub mod entry;
 pub mod line;
+pub mod order;
 pub mod question;
 pub mod refusal;
 pub mod same;

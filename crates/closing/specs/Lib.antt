@@ -1,0 +1,3 @@
+pub mod Formed
+pub mod Cut
+pub mod Entered

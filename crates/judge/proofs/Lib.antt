@@ -1,0 +1,4 @@
+pub mod Properly
+pub mod Seeing
+pub mod Serving
+pub mod Weighing

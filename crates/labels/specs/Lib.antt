@@ -1,0 +1,4 @@
+pub mod Ruled
+pub mod Claimed
+pub mod Lookup
+pub mod Passing

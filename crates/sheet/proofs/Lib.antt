@@ -1,0 +1,3 @@
+mod Ends
+mod Stores
+mod Appending

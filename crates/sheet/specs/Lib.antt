@@ -1,0 +1,5 @@
+pub mod Entries
+pub mod Sheets
+pub mod Grounds
+pub mod Labels
+pub mod Calls
