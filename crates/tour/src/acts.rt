@@ -99,3 +99,17 @@ pub fn refused() -> [Action; 2] {
         ),
     ]
 }
+
+pub fn another_question() -> [Action; 2] {
+    [
+        deed("clear the question", Call::ClearQuestion),
+        entry(
+            "question: tithe above 3 tenths",
+            Call::EnterLine(QuestionLine {
+                concept: 0,
+                comparison: Comparison::Above,
+                degree: 3,
+            }),
+        ),
+    ]
+}

@@ -1,5 +1,6 @@
-// Keeps a small parish book from start to finish, and prints each action with what came of it.
+// Keeps a small parish book from start to finish, drafts sheets and has them judged, and prints each action with what came of it.
 mod acts;
+mod sheets;
 mod shows;
 
 use acts::Action;
@@ -49,7 +50,12 @@ fn run(rt: &LibcRuntime) -> Result<(), AnyError> {
     shows::all(rt, &book, &question)?;
     println!(rt, "Two calls that are refused")?;
     make_all(rt, &mut book, &mut question, &acts::refused())?;
-    shows::all(rt, &book, &question)
+    shows::all(rt, &book, &question)?;
+    println!(rt, "A sheet that says no, in half tenths")?;
+    sheets::closing(rt, &book, &question)?;
+    println!(rt, "A question that can be met, and a sheet that says yes")?;
+    make_all(rt, &mut book, &mut question, &acts::another_question())?;
+    sheets::standing(rt, &book, &question)
 }
 
 fn main(rt: LibcRuntime) -> Result<(), AnyError> {
