@@ -1,4 +1,6 @@
 // The rule book, kept by calls that refuse whatever would spoil it. What always holds of a book stands in its type.
+#![tactic(auto)]
+
 ghost use Rattle.std.specs.Prelude.{ℕ, ◌≤◌, length, vec_capacity};
 ghost use Rattle.names.specs.Texts.{texts};
 ghost use Rattle.book.specs.Citing.{Founded, Graded, Apart, Joined};

@@ -1,4 +1,6 @@
 // Tests of the rule book, its question and lists of calls on both: each refusal at its edge, and what stands after it.
+#![tactic(auto)]
+
 #[cfg(test)]
 mod concepts;
 #[cfg(test)]

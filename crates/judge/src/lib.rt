@@ -1,4 +1,6 @@
 // Judging finished sheets: whether a sheet shows that nothing meets book and question, or that something does.
+#![tactic(auto)]
+
 pub mod closing_rules;
 pub mod faults;
 pub mod judging;

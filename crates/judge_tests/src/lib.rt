@@ -1,4 +1,6 @@
 // Tests of judging: small sheets, accepted and broken, and stores that hold anything.
+#![tactic(auto)]
+
 #[cfg(test)]
 mod closing;
 #[cfg(test)]

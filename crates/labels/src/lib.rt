@@ -1,5 +1,7 @@
 // Tests on the labels of a sheet's entries: faults, look-ups, clashes, conclusions, what is passed on, inclusions.
 // Each answers exactly as the relation of `logic` that its contract cites, on every label, rising or not.
+#![tactic(auto)]
+
 pub mod adding;
 pub mod carrying;
 pub mod claim;

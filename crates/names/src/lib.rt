@@ -1,4 +1,6 @@
 // Names: what one may be, their order, and lists of names that differ.
+#![tactic(auto)]
+
 mod list;
 mod name;
 

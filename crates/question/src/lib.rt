@@ -1,4 +1,6 @@
 // The question beside a rule book.
+#![tactic(auto)]
+
 ghost use Rattle.std.specs.Prelude.{◌≡◌, ℕ, ◌≤◌, length, slice_index_or};
 ghost use Rattle.question.specs.Blanks.{blank_line};
 

@@ -1,4 +1,6 @@
 // Rows of elements in strict order (sorted arrays without equal elements), over slices that are lent.
+#![tactic(auto)]
+
 ghost use Rattle.std.specs.Prelude.{◌≤◌, length};
 
 mod lookup;

@@ -1,4 +1,6 @@
 // Lists of calls on a book and its question, and the law of what they come to.
+#![tactic(auto)]
+
 mod calls;
 mod performing;
 

@@ -1,5 +1,7 @@
 // Sheets (tableaux): entries with labels, kept in a store that the caller lends. A sheet is in one of three states:
 // `Sheet` takes entries, `Begun` has one entry begun that is to be filed or struck, `Finished` has its kind and root.
+#![tactic(auto)]
+
 use terms::entry::{Head, Kind};
 use terms::line::Line;
 use terms::refusal::Refused;

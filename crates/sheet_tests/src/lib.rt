@@ -1,4 +1,6 @@
 // What callers learn from the contracts of `sheet`, and tests of its calls.
+#![tactic(auto)]
+
 ghost use Rattle.std.specs.Prelude.{◌≡◌, length, replicate};
 ghost use Rattle.terms.specs.Lines.{zero_line};
 ghost use Rattle.sheet.specs.Entries.{zero_slot};

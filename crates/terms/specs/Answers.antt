@@ -1,8 +1,7 @@
 -- What a table of grounds makes of a call: refused with the least ground, accepted where there is none.
-use Rattle.std.specs.Prelude.{◌≡◌, ℕ, ◌-◌, ◌<◌, ◌≤◌, ◌↔◌, take, Ok, Err, Result}
+use Rattle.std.specs.Prelude.{◌≡◌, ◌-◌, ◌<◌, ◌≤◌, ◌↔◌, take, Ok, Err, Result}
 use Rattle.std.specs.List.{AllByRecursion as All}
 use Rattle.terms.specs.declared.refusal.Refusal.{Refusal}
-use Rattle.terms.specs.declared.refusal.Refusal.TheVariants.{NoMemory}
 use Rattle.terms.specs.Refusals.{number, numbered}
 
 -- `Ground e` says that the call has the ground e. It is accepted: none of the numbered grounds applies. It is refused with e: e applies, and none of a lower number does.

@@ -1,5 +1,5 @@
 -- Lines (graded assertions): their order in a label, their limits, and the line of a slot that is not in use.
-use Rattle.std.specs.Prelude.{◌≡◌, ℕ, ◌⊎◌, pos, negsuc, ◌<ℤ◌}
+use Rattle.std.specs.Prelude.{ℕ, ◌⊎◌, pos, negsuc, ◌<ℤ◌}
 use Rattle.std.specs.declared.cmp.Ordering.{Ordering}
 use Rattle.std.specs.Ordering.{ordering_then, nat_cmp, int_cmp}
 use Rattle.terms.specs.declared.line.Side.{Side}

@@ -1,4 +1,6 @@
 // The vocabulary that every other crate shares: concepts, inclusions, question lines, the lines and entries of sheets, refusals.
+#![tactic(auto)]
+
 pub mod concept;
 pub mod entry;
 pub mod line;

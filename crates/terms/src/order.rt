@@ -2,8 +2,7 @@
 ghost use Rattle.std.specs.Prelude.{◌≡◌, ℕ};
 ghost use Rattle.terms.specs.declared.line.Line.{Line};
 ghost use Rattle.terms.specs.Lines.{line_order, side_number};
-ghost use Rattle.std.specs.Cmp.{nat_cmp_total, int_cmp_total, pairs, then_total, on_total};
-ghost use Rattle.terms.specs.LineOrderedLemmas.{parts};
+ghost use Rattle.terms.specs.LineOrderLaws.{line_order_total, line_order_transitive, line_order_agrees};
 
 use crate::line::{Line, Side};
 use row::Ordered;
@@ -25,7 +24,11 @@ impl Ordered for Line {
 
     ghost cmp = { line_order };
 
-    ghost transitive = { λ x y z. (pairs nat_cmp_total (then_total (on_total (λ p. p.0) nat_cmp_total) (on_total (λ p. p.1) int_cmp_total))).trans (parts x) (parts y) (parts z) };
+    ghost total = { line_order_total };
+
+    ghost transitive = { line_order_transitive };
+
+    ghost agrees = { line_order_agrees };
 
     fn compare(&self, other: &Line) -> Ordering {
         let by_concept = self.concept.cmp(&other.concept);

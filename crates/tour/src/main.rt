@@ -1,4 +1,6 @@
 // Keeps a small parish book from start to finish, drafts sheets and has them judged, and prints each action with what came of it.
+#![tactic(auto)]
+
 mod acts;
 mod sheets;
 mod shows;

@@ -5,11 +5,11 @@ use Rattle.row.specs.Rows.{items}
 use Rattle.row.proofs.Orders.{order_from_laws, ascending_appended}
 use Rattle.row.proofs.Row.append.Goals as goal
 
-pub returns-then-not-above-last : goal.returns-then-not-above-last
-returns-then-not-above-last g c =
+pub returns-then-not-above_last : goal.returns-then-not-above_last
+returns-then-not-above_last g c =
     let xs = items c.args.self.now in
     let long : length xs ≡ c.args.self.now.len = length-take-le _ _ c.args.self.now.within in
-    let last = subst (λ (l : List g.row.T.Denot). LastNotBelow g.T.Ordered.cmp c.args.x l) c.as-slice.ensures c.if-not-above-last.ensures in
+    let last = subst (λ (l : List g.row.T.Denot). LastNotBelow g.T.Ordered.cmp c.args.x l) c.as_slice.ensures c.if-not-above_last.ensures in
     let w = c.args.self.now.within in
     record {
       outcome = (omega arith, last, refl);
@@ -28,7 +28,7 @@ returns g c =
     let long : length xs ≡ row.len = length-take-le _ _ row.within in
     let w = row.within in
     let room : row.len < length row.slots.now = omega arith in
-    let last = subst (λ (l : List g.row.T.Denot). LastBelow cmp c.args.x l) c.as-slice.ensures c.if-not-above-last.ensures in
+    let last = subst (λ (l : List g.row.T.Denot). LastBelow cmp c.args.x l) c.as_slice.ensures c.if-not-above_last.ensures in
     let after : take (row.len + 1) (set row.slots.now row.len c.args.x) ≡ xs ++ c.args.x ∷ [] = take_more_set row.slots.now row.len c.args.x room in
     record {
       outcome = (omega arith, last, sym long, after);

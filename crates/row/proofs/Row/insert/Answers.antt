@@ -24,7 +24,7 @@ returns g c =
     let o = order_from_laws cmp g.T.Ordered.key met.total met.transitive met.agrees in
     let xs = items c.args.self.now in
     let en = c.in-Err.ensures in
-    let put = c.put-at.ensures in
+    let put = c.put_at.ensures in
     let long : length xs ≡ c.args.self.now.len = length-take-le _ _ c.args.self.now.within in
     record {
       outcome = (omega arith, en.outcome, put.items);

@@ -1,17 +1,24 @@
--- The laws of the order of lines, from those of numbers and pairs.
-use Rattle.terms.specs.LineOrderedLemmas.{parts}
-use Rattle.std.proofs.Common.{◌≡◌, ℕ, Ordering, Less, Equal, Greater, refl, ap, subst, true≢false, arith}
+-- The laws of the order of lines, from those of numbers: it is total and transitive, and lines that are equal in it are the same.
+use Rattle.std.specs.Prelude.{◌≡◌, ℕ}
+use Rattle.std.proofs.Common.{refl, ap, subst, true≢false, arith}
+use Rattle.std.specs.declared.cmp.Ordering.{Ordering}
+use Rattle.std.specs.declared.cmp.Ordering.TheVariants.{Less, Equal, Greater}
 use Rattle.std.specs.Ordering.{ordering_then, ordering_reverse, is_eq, is_lt, is_gt, nat_cmp, int_cmp}
-use Rattle.std.specs.Cmp.{nat_cmp_total, int_cmp_total, pairs, signed_Decides, then_total, on_total}
+use Rattle.std.specs.Cmp.{IsTotalOrder, nat_cmp_total, int_cmp_total, signed_Decides, then_total, on_total}
 use Rattle.std.proofs.lemmas.Bool.Decides.{nat_tests}
 use Rattle.terms.specs.declared.line.Side.{Side}
 use Rattle.terms.specs.declared.line.Side.TheVariants.{AtLeast, AtMost}
 use Rattle.terms.specs.declared.line.Line.{Line}
 use Rattle.terms.specs.Lines.{line_order, side_number}
-use Rattle.terms.proofs.order.LineOrdered.TheImpl.Goals as goal
 
-pub total-law : goal.total-law
-total-law x y = (pairs nat_cmp_total (then_total (on_total (λ p. p.0) nat_cmp_total) (on_total (λ p. p.1) int_cmp_total))).flip (parts x) (parts y)
+laws : IsTotalOrder line_order
+laws = then_total (on_total (λ (x : Line). x.concept) nat_cmp_total) (then_total (on_total (λ (x : Line). side_number x.side) nat_cmp_total) (on_total (λ (x : Line). x.bound) int_cmp_total))
+
+pub line_order_total : (x y : Line) → line_order x y ≡ ordering_reverse (line_order y x)
+line_order_total = laws.antisymm
+
+pub line_order_transitive : (x y z : Line) → line_order x y ≡ Less → line_order y z ≡ Less → line_order x z ≡ Less
+line_order_transitive = laws.trans
 
 both_equal : (a b : Ordering) → ordering_then a b ≡ Equal → (a ≡ Equal) × (b ≡ Equal)
 both_equal Less b h = absurd (true≢false (ap is_lt h))
@@ -41,5 +48,5 @@ self_equal Less h = absurd (true≢false (ap is_lt h))
 self_equal Equal h = refl
 self_equal Greater h = absurd (true≢false (ap is_gt h))
 
-pub agrees-law : goal.agrees-law
-agrees-law x y = (same_from_equal x y, λ e. subst (λ z. line_order x z ≡ Equal) e (self_equal (line_order x x) (total-law x x)))
+pub line_order_agrees : (x y : Line) → (line_order x y ≡ Equal → x ≡ y) × (x ≡ y → line_order x y ≡ Equal)
+line_order_agrees x y = (same_from_equal x y, λ e. subst (λ z. line_order x z ≡ Equal) e (self_equal (line_order x x) (line_order_total x x)))
