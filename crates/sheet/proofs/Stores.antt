@@ -1,10 +1,10 @@
 -- What calls leave of a store's slots.
-use Rattle.std.proofs.Common.{◌≡◌, ℕ, ◌+◌, ◌-◌, ◌<◌, ◌≤◌, min, List, [], ◌∷◌, ◌++◌, map, length, take, drop, set, replicate, sym, refl, ap, ◌∙◌, ap₂, ⊎_elim, arith}
+use Rattle.std.proofs.Common.{◌≡◌, ℕ, ◌+◌, ◌-◌, ◌<◌, ◌≤◌, min, List, [], ◌∷◌, ◌++◌, map, length, take, drop, set, replicate, sym, ap, ◌∙◌, ap₂, ⊎_elim, arith}
 use Rattle.std.proofs.lemmas.List.{length-map, length-take, length-set, length-drop, length-append, length-replicate, length-take-le, take_all, take_at, drop_at, drop_all, drop-drop, drop-replicate, drop-set-lt, drop-set-add, take_more_set, map_push, append-nil, append_assoc, replicate-append-replicate}
 use Rattle.std.proofs.lemmas.Bool.{cases_lt}
 use Rattle.terms.specs.declared.line.Line.{Line}
 use Rattle.sheet.specs.declared.EntrySlot.{EntrySlot}
-use Rattle.sheet.specs.Entries.{FiledEntry, part, entry_of, entries_in, wiped}
+use Rattle.sheet.specs.Entries.{part, entry_of, entries_in, wiped}
 
 pub entries_length : (es : List EntrySlot) (ls : List Line) (n : ℕ) → length (entries_in es ls n) ≡ min n (length es)
 entries_length es ls n = length-map (take n es) (entry_of ls) ∙ length-take n es

@@ -12,7 +12,7 @@ use Rattle.sheet.specs.declared.Begun.{Begun}
 use Rattle.sheet.specs.declared.Finished.{Finished}
 use Rattle.sheet.specs.declared.Unchanged.{Unchanged}
 use Rattle.sheet.specs.declared.NotTaken.{NotTaken}
-use Rattle.sheet.specs.Entries.{FiledEntry, zero_slot, last_end, wiped}
+use Rattle.sheet.specs.Entries.{zero_slot, last_end, wiped}
 use Rattle.sheet.specs.Sheets.{filed, filed_beside, filed_finished, label_of, Sound, SoundBegun, CleanSheet, CleanBegun}
 use Rattle.sheet.specs.Grounds.{Call, an_entry, a_line, finishing, taking, Accepted, RefusedWith}
 

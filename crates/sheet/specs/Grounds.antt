@@ -1,5 +1,5 @@
 -- The table of refusals for the calls on sheets: when each number applies. A clause that says ⊥ says: never.
-use Rattle.std.specs.Prelude.{◌≡◌, ℕ, ◌+◌, ◌<◌, ◌≤◌, ◌⊎◌, List, Ok, Err}
+use Rattle.std.specs.Prelude.{◌≡◌, ℕ, ◌<◌, ◌≤◌, ◌⊎◌, List, Ok, Err}
 use Rattle.row.specs.Order.{LastNotBelow}
 use Rattle.terms.specs.declared.line.Line.{Line}
 use Rattle.terms.specs.declared.entry.Head.{Head}

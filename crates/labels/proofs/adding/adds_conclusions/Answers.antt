@@ -2,11 +2,11 @@ use Rattle.std.proofs.Common.{◌≡◌, ℕ, arith, below_more}
 use Rattle.std.proofs.lemmas.Bool.Decides.{not_from_Decides}
 use Rattle.labels.proofs.adding.adds_conclusions.Goals as goal
 
-pub returns-then-not-has-or-concludes : goal.returns-then-not-has-or-concludes
-returns-then-not-has-or-concludes c = (
+pub returns-then-not-has_or_concludes : goal.returns-then-not-has_or_concludes
+returns-then-not-has_or_concludes c = (
   λ e. absurd (let z : ◌≡◌ {A = ℕ} 0 1 = cc in omega arith),
-  λ all. absurd (not_from_Decides c.has-or-concludes.result c.has-or-concludes.ensures c.if-not-has-or-concludes.true (all c.loop-l.l-index (omega arith))),
+  λ all. absurd (not_from_Decides c.has_or_concludes.result c.has_or_concludes.ensures c.if-not-has_or_concludes.true (all c.loop-l.l-index (omega arith))),
 )
 
 pub loop-l-preserved : goal.loop-l-preserved
-loop-l-preserved c = below_more _ _ c.loop-l.invariant (c.has-or-concludes.ensures.0 c.if-not-has-or-concludes.false)
+loop-l-preserved c = below_more _ _ c.loop-l.invariant (c.has_or_concludes.ensures.0 c.if-not-has_or_concludes.false)

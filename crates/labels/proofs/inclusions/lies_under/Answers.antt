@@ -7,11 +7,11 @@ use Rattle.labels.proofs.inclusions.lies_under.Goals as goal
 
 pub returns : goal.returns
 returns c =
-    let y = c.smallest-at-most.result in
-    let z = c.greatest-at-least.result in
+    let y = c.smallest_at_most.result in
+    let z = c.greatest_at_least.result in
     let fy : SFits w64 y = search rules in
     let fz : SFits w64 z = search rules in
     let P = LiesUnder c.args.fineness c.args.label.lines.now c.args.i in
     subst (λ (v : ℤ). Decides (le_z v (to_z w64 (of_z w64 z))) P) (sym (to_z-of_z w64 y fy))
     (subst (λ (v : ℤ). Decides (le_z y v) P) (sym (to_z-of_z w64 z fz))
-    (under_decides c.args.fineness c.args.label.lines.now c.args.i y z c.smallest-at-most.ensures c.greatest-at-least.ensures))
+    (under_decides c.args.fineness c.args.label.lines.now c.args.i y z c.smallest_at_most.ensures c.greatest_at_least.ensures))

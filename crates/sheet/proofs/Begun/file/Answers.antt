@@ -1,8 +1,8 @@
-use Rattle.std.proofs.Common.{◌≡◌, ℕ, ◌+◌, ◌<◌, ◌≤◌, List, map, length, take, set, sym, refl, ap, ◌∙◌, subst, arith}
+use Rattle.std.proofs.Common.{◌≡◌, ℕ, ◌+◌, List, length, take, set, sym, refl, ap, ◌∙◌, subst, arith}
 use Rattle.std.proofs.lemmas.List.{length-set, take_more_set}
 use Rattle.sheet.specs.declared.EntrySlot.{EntrySlot}
-use Rattle.sheet.specs.Entries.{entry_of, entries_in, last_end, zero_slot}
-use Rattle.sheet.specs.Sheets.{Kept, Clean}
+use Rattle.sheet.specs.Entries.{entries_in, last_end, zero_slot}
+use Rattle.sheet.specs.Sheets.{Clean}
 use Rattle.sheet.specs.Calls.{slot_of}
 use Rattle.sheet.proofs.Ends.{last_end_push}
 use Rattle.sheet.proofs.Stores.{entries_more, blank_more}
@@ -16,29 +16,29 @@ returns c =
     let after = c.put.new.entries in
     let e : after ≡ set es b.used (slot_of b) = c.put.ensures in
     let long : length after ≡ length es = ap length e ∙ length-set es b.used (slot_of b) in
-    let u = c.end-within-used.result in
-    let w = c.end-within-written.result in
+    let u = c.end_within-used.result in
+    let w = c.end_within-written.result in
     record {
       entries = e;
       lent = refl;
       lines = refl;
-      used = omega (arith, c.end-within-used.ensures);
-      written = c.end-within-written.ensures;
+      used = omega (arith, c.end_within-used.ensures);
+      written = c.end_within-written.ensures;
       filed_is = λ k.
-          let n : u ≡ b.used + 1 = omega (arith, k.slot, c.end-within-used.ensures) in
+          let n : u ≡ b.used + 1 = omega (arith, k.slot, c.end_within-used.ensures) in
           ap (λ (m : ℕ). entries_in after ls m) n ∙ ap (λ (xs : List EntrySlot). entries_in xs ls (b.used + 1)) e ∙ entries_more es ls b.used (slot_of b) k.slot;
       sound = λ k.
-          let n : u ≡ b.used + 1 = omega (arith, k.slot, c.end-within-used.ensures) in
+          let n : u ≡ b.used + 1 = omega (arith, k.slot, c.end_within-used.ensures) in
           let first : take u after ≡ _ = ap (λ (m : ℕ). take m after) n ∙ ap (take (b.used + 1)) e ∙ take_more_set es b.used (slot_of b) k.slot in
           let ends = ap (last_end (length ls)) first ∙ last_end_push (length ls) (take b.used es) (slot_of b) in
           record {
             few = omega (arith, k.few);
             slots = omega (arith, k.slot);
-            free = omega (arith, c.end-within-written.ensures, k.kept.free, k.fits);
+            free = omega (arith, c.end_within-written.ensures, k.kept.free, k.fits);
           };
       clean = λ k z.
-          let n : b.used + 1 ≡ u = omega (arith, k.slot, c.end-within-used.ensures) in
-          let m : b.from + b.count ≡ w = omega (arith, k.fits, c.end-within-written.ensures) in
+          let n : b.used + 1 ≡ u = omega (arith, k.slot, c.end_within-used.ensures) in
+          let m : b.from + b.count ≡ w = omega (arith, k.fits, c.end_within-written.ensures) in
           subst (λ (i : ℕ). Clean after ls i w) n (subst (λ (xs : List EntrySlot). Clean xs ls (b.used + 1) w) (sym e)
           (record { slots = blank_more zero_slot es b.used (slot_of b) k.slot z.slots; lines = (subst (λ (i : ℕ). Clean es ls b.used i) m z).lines }));
     }

@@ -1,14 +1,11 @@
-use Rattle.std.proofs.Common.{◌≡◌, ℕ, ◌+◌, ◌-◌, ◌<◌, ◌≤◌, ◌⊎◌, List, length, take, drop, set, sym, refl, ap, ◌∙◌, subst, inl, inr, ⊎_elim, true≢false, arith, rules}
+use Rattle.std.proofs.Common.{◌≡◌, ℕ, ◌+◌, ◌-◌, ◌<◌, ◌≤◌, ◌⊎◌, List, length, take, drop, set, sym, refl, ap, ◌∙◌, subst, inl, ⊎_elim, true≢false, arith, rules}
 use borrow.Rule.Slice.Mut.{set_vals}
 use Rattle.std.proofs.lemmas.List.{length-set, length-take-le, length-drop, take-set-le}
 use Rattle.row.specs.Order.{LastNotBelow}
 use Rattle.terms.specs.declared.line.Line.{Line}
 use Rattle.terms.specs.Lines.{line_order, zero_line, BoundOutside}
-use Rattle.sheet.specs.declared.Begun.{Begun}
-use Rattle.sheet.specs.Entries.{last_end, part}
+use Rattle.sheet.specs.Entries.{last_end}
 use Rattle.sheet.specs.Sheets.{Clean, label_of}
-use Rattle.sheet.specs.Grounds.{Accepted}
-use Rattle.sheet.specs.Calls.{entering}
 use Rattle.sheet.proofs.Ends.{entries_same}
 use Rattle.sheet.proofs.Stores.{blank_more}
 use Rattle.sheet.proofs.Appending.{refused_above, accepted_above}
@@ -22,9 +19,9 @@ returns-in-Ok c =
     let ls = b.lines.now in
     let after = c.append.new.lines in
     let a = c.in-Ok.ensures in
-    let lt : b.from + b.count < length ls = omega (arith, c.end-within.ensures) in
+    let lt : b.from + b.count < length ls = omega (arith, c.end_within.ensures) in
     let above : ¬ LastNotBelow line_order x (label_of b) = accepted_above x (label_of b) a.outcome.1 in
-    let within : ¬ BoundOutside x = λ h. true≢false (sym (c.bound-outside.ensures.1 h) ∙ c.if-bound-outside.false) in
+    let within : ¬ BoundOutside x = λ h. true≢false (sym (c.bound_outside.ensures.1 h) ∙ c.if-bound_outside.false) in
     let order : ¬ (LastNotBelow line_order x (label_of b) ⊎ BoundOutside x) = λ h. ⊎_elim above within h in
     let e : after ≡ set ls (b.from + b.count) x = a.slots_are in
     let long : length after ≡ length ls = ap length e ∙ length-set ls (b.from + b.count) x in
@@ -63,7 +60,7 @@ returns-in-Err c =
     let x = c.args.line in
     let ls = b.lines.now in
     let a = c.in-Err.ensures in
-    let lt : b.from + b.count < length ls = omega (arith, c.end-within.ensures) in
+    let lt : b.from + b.count < length ls = omega (arith, c.end_within.ensures) in
     let short : length (label_of b) ≡ b.count = length-take-le b.count (drop b.from ls) (omega (arith, length-drop b.from ls)) in
     let last : LastNotBelow line_order x (label_of b) = refused_above x (label_of b) _ (length ls - b.from) c.in-Err.field-0 (omega arith) a.outcome in
     let order : LastNotBelow line_order x (label_of b) ⊎ BoundOutside x = inl last in (

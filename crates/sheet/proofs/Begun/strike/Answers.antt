@@ -1,4 +1,4 @@
-use Rattle.std.proofs.Common.{◌≡◌, ℕ, ◌+◌, ◌-◌, ◌≤◌, List, length, take, drop, replicate, sym, refl, ap, ◌∙◌, subst, arith}
+use Rattle.std.proofs.Common.{◌≡◌, ℕ, ◌-◌, ◌≤◌, length, take, drop, replicate, sym, refl, ap, ◌∙◌, arith}
 use Rattle.terms.specs.Lines.{zero_line}
 use Rattle.sheet.specs.Entries.{last_end, wiped}
 use Rattle.sheet.proofs.Ends.{entries_same}

@@ -1,4 +1,4 @@
-use Rattle.std.proofs.Common.{◌≡◌, ◌<◌, ◌≤◌, List, map, length, get_or, take, sym, ap, ◌∙◌, arith}
+use Rattle.std.proofs.Common.{◌<◌, ◌≤◌, List, map, length, get_or, take, sym, ap, ◌∙◌, arith}
 use Rattle.std.proofs.lemmas.List.{get_or_past, get_or-map, length-map}
 use Rattle.sheet.specs.declared.EntrySlot.{EntrySlot}
 use Rattle.sheet.specs.Entries.{FiledEntry, entry_of, part, no_entry, zero_slot}
@@ -17,6 +17,6 @@ returns c =
     let f = c.args.self.now in
     let es = take f.used f.entries.now in
     let within : c.args.number < length es = omega (arith, ap length c.entries-entries.ensures) in
-    c.lines-from.ensures
+    c.lines_from.ensures
     ∙ ap (λ (xs : List EntrySlot). part (get_or xs c.args.number zero_slot).start (get_or xs c.args.number zero_slot).count f.lines.now) c.entries-entries.ensures
     ∙ ap (λ (e : FiledEntry). e.label) (sym (get_or-map (entry_of f.lines.now) es c.args.number zero_slot no_entry within))

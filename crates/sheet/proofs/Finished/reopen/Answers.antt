@@ -1,4 +1,4 @@
-use Rattle.std.proofs.Common.{◌≡◌, ℕ, ◌≤◌, min, List, map, length, take, sym, refl, ap, ◌∙◌, ap₂, arith, rules}
+use Rattle.std.proofs.Common.{◌≡◌, ℕ, min, map, length, take, sym, ap, ◌∙◌, ap₂, arith}
 use Rattle.std.proofs.lemmas.List.{length-take}
 use Rattle.sheet.specs.Entries.{entry_of, last_end}
 use Rattle.sheet.proofs.Stores.{take_most}
@@ -11,7 +11,7 @@ returns c =
     let ls = f.lines.now in
     let n = length c.entries-used.result.now in
     let u : n ≡ min f.used (length es) = ap length c.entries-used.ensures ∙ length-take f.used es in
-    let w : c.furthest-end-written.result ≡ last_end (length ls) (take f.used es) = c.furthest-end-written.ensures ∙ ap (last_end (length ls)) c.entries.ensures in
+    let w : c.furthest_end-written.result ≡ last_end (length ls) (take f.used es) = c.furthest_end-written.ensures ∙ ap (last_end (length ls)) c.entries.ensures in
     let all : take n es ≡ take f.used es = ap (λ (m : ℕ). take m es) u ∙ take_most f.used es in
     record {
       same = ap₂ (λ (m k : ℕ). record { entries = f.entries; lines = f.lines; used = m; written = k }) u w;

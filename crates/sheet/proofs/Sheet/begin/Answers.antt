@@ -1,4 +1,4 @@
-use Rattle.std.proofs.Common.{◌≡◌, ℕ, ◌+◌, ◌≤◌, length, take, sym, refl, subst, inl, inr, arith, rules}
+use Rattle.std.proofs.Common.{◌≡◌, ◌+◌, ◌≤◌, length, take, refl, subst, inl, inr, arith, rules}
 use Rattle.terms.specs.declared.refusal.Refusal.TheVariants.{NoRoom}
 use Rattle.terms.proofs.Least.{free_of}
 use Rattle.sheet.specs.Sheets.{filed, Clean}

@@ -1,4 +1,4 @@
-use Rattle.std.proofs.Common.{◌≡◌, ℕ, ◌+◌, List, [], ◌∷◌, ◌++◌, length, get_or, take, sym, ap, ◌∙◌, arith}
+use Rattle.std.proofs.Common.{get_or, take, ap, ◌∙◌, arith}
 use Rattle.std.proofs.lemmas.List.{take_more, take_all}
 use Rattle.sheet.specs.Entries.{zero_slot, last_end}
 use Rattle.sheet.proofs.Ends.{last_end_push}
@@ -10,7 +10,7 @@ loop-entry-preserved c =
     let i = c.loop-entry.entry-index in
     let e = get_or es i zero_slot in
     let more = ap (last_end c.args.room) (take_more es i zero_slot (omega arith)) ∙ last_end_push c.args.room (take i es) e in
-    omega (arith, more, c.loop-entry.invariant, c.max-furthest.ensures, c.end-within.ensures)
+    omega (arith, more, c.loop-entry.invariant, c.max-furthest.ensures, c.end_within.ensures)
 
 pub returns : goal.returns
 returns c = c.loop-entry.invariant ∙ ap (last_end c.args.room) (take_all c.loop-entry.entry-index c.args.entries.now (omega arith))

@@ -10,8 +10,8 @@ use Rattle.names.specs.Order.{record_order}
 use Rattle.names.proofs.Numbers.{Kept, kept_more, kept_still, found_name, missing_name, still_row, there_already}
 use Rattle.names.proofs.list.NameList.enter.Goals as goal
 
-pub place-owned-requires : goal.place-owned-requires
-place-owned-requires g c =
+pub place_owned-requires : goal.place_owned-requires
+place_owned-requires g c =
     let b = c.args.self.now in
     let n : c.len-number.result ≡ length (vec_items b.names) = c.len-number.ensures ∙ length-map (vec_items b.names) letters in
     record {
@@ -19,37 +19,36 @@ place-owned-requires g c =
       up = subst (λ (k : ℕ). Ascending record_order (take k (vec_items b.records))) (sym n) (ascending_from_climbing record_order _ b.up);
     }
 
-pub push-reserved-requires : goal.push-reserved-requires
-push-reserved-requires g c =
+pub push_reserved-requires : goal.push_reserved-requires
+push_reserved-requires g c =
     let b = c.args.self.now in
     omega (arith, b.names.ok.0, b.room, c.if-number.false, c.len-number.ensures, length-map (vec_items b.names) letters)
 
-pub invariant-of-self : goal.invariant-of-self
-invariant-of-self g c =
+pub invariant_of-self : goal.invariant_of-self
+invariant_of-self g c =
     let b = c.args.self.now in
     let n : c.len-number.result ≡ length (vec_items b.names) = c.len-number.ensures ∙ length-map (vec_items b.names) letters in
     let x : NameRecord = record { name = c.in-Some.name; number = c.len-number.result } in
     let o = c.in-Ok.ensures.outcome in
-    let e = c.push-reserved.ensures.items in
-    let r = kept_more (vec_items b.names) (vec_items c.push-reserved.new.self) (vec_items b.records) (vec_items c.place-owned.new.records) x c.len-number.result c.in-Ok.field-0 n e refl o.1 o.2 c.in-Ok.ensures.up (b.up, b.numbered, b.listed) in (
-      omega (arith, c.place-owned.ensures.size, b.whole),
-      (
-        omega (arith, ap length e, length_push (vec_items b.names) c.in-Some.name, c.if-number.false, n),
-        (
-          omega (arith, c.push-reserved.ensures.capacity, b.room),
-          (r.0, (r.1, (r.2, tt))),
-        ),
-      ),
-    )
+    let e = c.push_reserved.ensures.items in
+    let r = kept_more (vec_items b.names) (vec_items c.push_reserved.new.self) (vec_items b.records) (vec_items c.place_owned.new.records) x c.len-number.result c.in-Ok.field-0 n e refl o.1 o.2 c.in-Ok.ensures.up (b.up, b.numbered, b.listed) in
+    record {
+      whole = omega (arith, c.place_owned.ensures.size, b.whole);
+      few = omega (arith, ap length e, length_push (vec_items b.names) c.in-Some.name, c.if-number.false, n);
+      room = omega (arith, c.push_reserved.ensures.capacity, b.room);
+      up = r.0;
+      numbered = r.1;
+      listed = r.2;
+    }
 
-pub invariant-of-self-in-Err : goal.invariant-of-self-in-Err
-invariant-of-self-in-Err g c =
+pub invariant_of-self-in-Err : goal.invariant_of-self-in-Err
+invariant_of-self-in-Err g c =
     let b = c.args.self.now in
     let n : c.len-number.result ≡ length (vec_items b.names) = c.len-number.ensures ∙ length-map (vec_items b.names) letters in
     let x : NameRecord = record { name = c.in-Some.name; number = c.len-number.result } in
-    let same = still_row x (take c.len-number.result (vec_items b.records)) (take c.len-number.result (vec_items c.place-owned.new.records)) (length (vec_items b.records)) c.in-Err.field-0 c.in-Err.ensures.outcome in
-    let r = kept_still (vec_items b.names) (vec_items b.records) (vec_items c.place-owned.new.records) c.len-number.result n same (b.up, b.numbered, b.listed) in
-    (omega (arith, c.place-owned.ensures.size, b.whole), (b.few, (b.room, (r.0, (r.1, (r.2, tt))))))
+    let same = still_row x (take c.len-number.result (vec_items b.records)) (take c.len-number.result (vec_items c.place_owned.new.records)) (length (vec_items b.records)) c.in-Err.field-0 c.in-Err.ensures.outcome in
+    let r = kept_still (vec_items b.names) (vec_items b.records) (vec_items c.place_owned.new.records) c.len-number.result n same (b.up, b.numbered, b.listed) in
+    record { whole = omega (arith, c.place_owned.ensures.size, b.whole); few = b.few; room = b.room; up = r.0; numbered = r.1; listed = r.2 }
 
 pub returns-in-Ok : goal.returns-in-Ok
 returns-in-Ok g c =
@@ -66,7 +65,7 @@ returns-in-Ok g c =
     record {
       answer = search rules;
       number = c.len-number.ensures;
-      after = ap (map letters) c.push-reserved.ensures.items ∙ map_push letters names c.in-Some.name ∙ ap (λ t. map letters names ++ t ∷ []) m.0;
+      after = ap (map letters) c.push_reserved.ensures.items ∙ map_push letters names c.in-Some.name ∙ ap (λ t. map letters names ++ t ∷ []) m.0;
     }
 
 pub returns-in-Err : goal.returns-in-Err

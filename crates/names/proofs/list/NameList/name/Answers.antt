@@ -13,5 +13,5 @@ returns g c =
     let names = c.args.self.now.names in
     let h : c.args.number < length (vec_items names) = omega (arith, length-map (vec_items names) letters, c.len.ensures, c.if-number-len.false) in (
       omega (arith, length-map (vec_items names) letters),
-      c.as-str.ensures ∙ ap letters c.index.ensures ∙ sym (get_or-map letters (vec_items names) c.args.number c.index.result.now [] h),
+      c.as_str.ensures ∙ ap letters c.index.ensures ∙ sym (get_or-map letters (vec_items names) c.args.number c.index.result.now [] h),
     )

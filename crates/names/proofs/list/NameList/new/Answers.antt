@@ -3,8 +3,8 @@ use lib.ListN.{length-replicate}
 use Rattle.names.proofs.Numbers.{kept_none}
 use Rattle.names.proofs.list.NameList.new.Goals as goal
 
-pub invariant-of-result : goal.invariant-of-result
-invariant-of-result g c =
-    let none = c.in-ok-names.ensures in
+pub invariant_of-result : goal.invariant_of-result
+invariant_of-result g c =
+    let none = c.in_ok-names.ensures in
     let k = kept_none _ _ none.items in
-    (search (rules, length-replicate), (omega (arith, ap length none.items), (search rules, (k.0, (k.1, (k.2, tt))))))
+    record { whole = search (rules, length-replicate); few = omega (arith, ap length none.items); room = search rules; up = k.0; numbered = k.1; listed = k.2 }

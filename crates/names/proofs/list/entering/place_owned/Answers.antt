@@ -7,8 +7,8 @@ pub returns : goal.returns
 returns c =
     let v = c.args.records.now in
     let ws = c.place.new.slots in
-    let lent = c.as-mut-slice.result.now in
-    let long : length ws ≡ vec_len v = c.place.ensures.size ∙ c.as-mut-slice.ensures.len in
+    let lent = c.as_mut_slice.result.now in
+    let long : length ws ≡ vec_len v = c.place.ensures.size ∙ c.as_mut_slice.ensures.len in
     let whole : take (vec_len v) (ws ++ drop (length ws) (vec_items v)) ≡ ws = take-append-le (vec_len v) ws (drop (length ws) (vec_items v)) (omega arith) ∙ take_all (vec_len v) ws (omega arith) in
     subst (λ after. Placed c.args.new c.args.len (vec_items v) after c.place.result) (sym whole)
-    (subst (λ slots. Placed c.args.new c.args.len slots ws c.place.result) c.as-mut-slice.ensures.value c.place.ensures)
+    (subst (λ slots. Placed c.args.new c.args.len slots ws c.place.result) c.as_mut_slice.ensures.value c.place.ensures)

@@ -4,10 +4,10 @@ use Rattle.names.proofs.name.spelling.padded.Goals as goal
 
 pub returns : goal.returns
 returns c =
-    let after = c.copy-from-slice.ensures.after in
-    let long : length c.copy-from-slice.new.self ≡ length c.args.bytes.now = ap length after in
+    let after = c.copy_from_slice.ensures.after in
+    let long : length c.copy_from_slice.new.self ≡ length c.args.bytes.now = ap length after in
     let few : length c.args.bytes.now ≤ 12 = c.requires in
     record {
-      front = take_at c.copy-from-slice.new.self _ (length c.args.bytes.now) long ∙ after;
+      front = take_at c.copy_from_slice.new.self _ (length c.args.bytes.now) long ∙ after;
       whole = simp (length-append, length-drop) (omega arith);
     }
