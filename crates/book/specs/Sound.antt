@@ -1,5 +1,5 @@
 -- What always holds of a book.
-use Rattle.std.specs.Prelude.{ℕ, ◌≤◌, List, length}
+use Rattle.std.specs.Prelude.{◌≤◌, length}
 use Rattle.names.specs.Kept.{NamesKept}
 use Rattle.book.specs.declared.Book.{Book}
 use Rattle.book.specs.Citing.{Founded, Graded, Apart, Joined}

@@ -1,5 +1,5 @@
 -- One call: what it answers and what it leaves.
-use Rattle.std.specs.Prelude.{◌≡◌, ℕ, cond, List, [], Ok, Err, Result, ◌==◌}
+use Rattle.std.specs.Prelude.{◌≡◌, ℕ, cond, [], Ok, Err, Result, ◌==◌}
 use Rattle.terms.specs.declared.refusal.Refusal.{Refusal}
 use Rattle.terms.specs.declared.refusal.Refused.{Refused}
 use Rattle.terms.specs.Refusals.{number}

@@ -1,5 +1,5 @@
 -- The inclusion and the step that an entry names.
-use Rattle.std.specs.Prelude.{◌≡◌, ℕ, ◌*◌, ◌<◌, ◌≤◌, false, length}
+use Rattle.std.specs.Prelude.{◌≡◌, ◌*◌, ◌<◌, ◌≤◌, false, length}
 use Rattle.terms.specs.declared.entry.Head.{Head}
 use Rattle.logic.specs.Books.{Book, inclusion_at}
 

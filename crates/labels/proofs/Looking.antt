@@ -1,5 +1,5 @@
 -- Looking up in a rising label.
-use Rattle.std.proofs.Common.{◌≡◌, ℕ, ◌+◌, ◌-◌, ◌<◌, ◌≤◌, ◌⊎◌, List, length, Some, None, sym, refl, ap, ◌∙◌, subst, inl, inr, arith}
+use Rattle.std.proofs.Common.{◌≡◌, ℕ, ◌+◌, ◌-◌, ◌<◌, ◌≤◌, ◌⊎◌, List, length, Some, None, sym, refl, ◌∙◌, subst, inl, inr, arith}
 use Rattle.std.proofs.lemmas.Int.{ints}
 use Rattle.std.proofs.lemmas.Bool.{cases_lt, cases_order}
 use Rattle.terms.specs.declared.line.Side.{Side}
@@ -9,7 +9,7 @@ use Rattle.logic.specs.Lines.{line_at, HasLine, AsStrong}
 use Rattle.logic.specs.Entries.{BeforeSide, Before, Rises}
 use Rattle.labels.specs.declared.lookup.Mark.{Mark}
 use Rattle.labels.specs.declared.lookup.Mark.TheVariants.{At, Turn}
-use Rattle.labels.specs.Lookup.{On, Strongest, StrongestLine, Lower, Precedes, Parted}
+use Rattle.labels.specs.Lookup.{On, StrongestLine, Lower, Precedes, Parted}
 use Rattle.labels.proofs.Orders.{before_irrefl, before_chain, before_later}
 
 -- ---- the mark

@@ -1,5 +1,5 @@
 -- What is passed on, line by line.
-use Rattle.std.specs.Prelude.{◌≡◌, ℕ, ◌<◌, List, ℤ, pos, ◌≤ℤ◌, ◌<ℤ◌, Some, None, Option}
+use Rattle.std.specs.Prelude.{◌≡◌, ℕ, List, ℤ, pos, ◌≤ℤ◌, ◌<ℤ◌, Some, None, Option}
 use Rattle.terms.specs.declared.concept.Concept.{Concept}
 use Rattle.terms.specs.declared.concept.Concept.TheVariants.{Heading, Constant, Not, Less, Lesser, Exists}
 use Rattle.terms.specs.declared.line.Side.TheVariants.{AtLeast, AtMost}

@@ -1,5 +1,5 @@
 -- The names of a list are names, and differ.
-use Rattle.std.proofs.Common.{◌≡◌, ℕ, ◌<◌, ◌≤◌, ◌⊎◌, List, [], ◌∷◌, map, length, get_or, take, vec_items, Less, Equal, sym, ap, ◌∙◌, subst, inl, inr, true≢false, arith, length-take-le, get_or-take}
+use Rattle.std.proofs.Common.{◌≡◌, ℕ, ◌<◌, ◌≤◌, ◌⊎◌, List, [], ◌∷◌, map, length, get_or, take, vec_items, sym, ap, ◌∙◌, subst, inl, inr, true≢false, arith, length-take-le, get_or-take}
 use Rattle.std.specs.Ordering.{is_lt}
 use Rattle.std.proofs.lemmas.List.{length-map, get_or-map}
 use Rattle.std.proofs.lemmas.Bool.{cases_order}

@@ -1,7 +1,7 @@
 -- Names by number and their records in a row: none, one more, and which names are there.
-use Rattle.std.proofs.Common.{◌≡◌, ℕ, ◌+◌, ◌-◌, ◌<◌, ◌≤◌, ◌⊎◌, List, [], ◌∷◌, ◌++◌, map, length, get_or, take, Err, Equal, sym, refl, ap, ◌∙◌, subst, inl, inr, arith}
+use Rattle.std.proofs.Common.{◌≡◌, ℕ, ◌+◌, ◌-◌, ◌<◌, ◌≤◌, ◌⊎◌, List, [], ◌∷◌, ◌++◌, map, length, get_or, take, Err, Equal, sym, ap, ◌∙◌, subst, inl, inr, arith}
 use lib.Seq.{get_or-append_seam}
-use Rattle.std.specs.List.{insert, ContainsAt as Has}
+use Rattle.std.specs.List.{insert}
 use Rattle.std.proofs.lemmas.List.Edits.{length-insert, get_or-insert_below, get_or-insert_at, get_or-insert_above}
 use Rattle.std.proofs.lemmas.List.{length_push, get_or_append_left, length-map, get_or-map}
 use Rattle.std.proofs.lemmas.Bool.{cases_lt, cases_order}

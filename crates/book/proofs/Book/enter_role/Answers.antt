@@ -3,22 +3,19 @@ use Rattle.names.specs.Texts.{texts}
 use Rattle.book.proofs.Entered.{founded_more, no_shorter}
 use Rattle.book.proofs.Book.enter_role.Goals as goal
 
-pub invariant-of-self : goal.invariant-of-self
-invariant-of-self c =
+pub invariant_of-self : goal.invariant_of-self
+invariant_of-self c =
     let b = c.args.self.now in
-    let long = no_shorter (is_ok c.enter.result) (texts c.enter.new.self) (texts b.roles) c.args.name.now c.enter.ensures.after in (
-      b.some,
-      (
-        b.fine,
-        (
-          b.few,
-          (
-            b.room,
-            (
-              founded_more (length (texts b.headings)) (length (texts b.headings)) (length (texts b.roles)) (length (texts c.enter.new.self)) (vec_items b.concepts) (omega arith) long b.founded,
-              (b.graded, (b.apart, (b.rules, (b.space, (b.joined, tt))))),
-            ),
-          ),
-        ),
-      ),
-    )
+    let long = no_shorter (is_ok c.enter.result) (texts c.enter.new.self) (texts b.roles) c.args.name.now c.enter.ensures.after in
+    record {
+      some = b.some;
+      fine = b.fine;
+      few = b.few;
+      room = b.room;
+      founded = founded_more (length (texts b.headings)) (length (texts b.headings)) (length (texts b.roles)) (length (texts c.enter.new.self)) (vec_items b.concepts) (omega arith) long b.founded;
+      graded = b.graded;
+      apart = b.apart;
+      rules = b.rules;
+      space = b.space;
+      joined = b.joined;
+    }

@@ -6,4 +6,4 @@ use Rattle.labels.specs.Ruled.{ruled}
 use Rattle.closing.proofs.conclude.adds_placed.Goals as goal
 
 pub returns : goal.returns
-returns c = subst (λ (l : Line). Decides c.adds-conclusions.result (Adds c.args.label.lines.now (Among (conclusions_of (ruled c.args.rules) l)) c.args.child.now)) c.placed.ensures c.adds-conclusions.ensures
+returns c = subst (λ (l : Line). Decides c.adds_conclusions.result (Adds c.args.label.lines.now (Among (conclusions_of (ruled c.args.rules) l)) c.args.child.now)) c.placed.ensures c.adds_conclusions.ensures

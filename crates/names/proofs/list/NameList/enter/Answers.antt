@@ -1,4 +1,4 @@
-use Rattle.std.proofs.Common.{◌≡◌, ℕ, ◌+◌, ◌<◌, ◌≤◌, List, [], ◌∷◌, ◌++◌, map, length, get_or, take, vec_items, sym, refl, ap, ◌∙◌, subst, arith, length-take-le, rules}
+use Rattle.std.proofs.Common.{◌≡◌, ℕ, ◌<◌, [], ◌∷◌, ◌++◌, map, length, take, vec_items, sym, refl, ap, ◌∙◌, subst, arith, length-take-le, rules}
 use Rattle.std.proofs.lemmas.List.{length_push, length-map, map_push}
 use Rattle.row.specs.Order.{Ascending}
 use Rattle.row.proofs.Orders.{ascending_from_climbing}
@@ -7,7 +7,7 @@ use Rattle.terms.specs.Among.{Among}
 use Rattle.names.specs.Letters.{letters}
 use Rattle.names.specs.Numbered.{Numbered, Listed}
 use Rattle.names.specs.Order.{record_order}
-use Rattle.names.proofs.Numbers.{Kept, kept_more, kept_still, found_name, missing_name, still_row, there_already}
+use Rattle.names.proofs.Numbers.{kept_more, kept_still, found_name, missing_name, still_row, there_already}
 use Rattle.names.proofs.list.NameList.enter.Goals as goal
 
 pub place_owned-requires : goal.place_owned-requires

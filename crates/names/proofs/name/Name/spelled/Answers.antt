@@ -1,4 +1,4 @@
-use Rattle.std.proofs.Common.{◌≡◌, ℕ, ◌<◌, length, sym, ◌∙◌, subst, inl, inr, true≢false, arith}
+use Rattle.std.proofs.Common.{◌≡◌, ◌<◌, length, sym, ◌∙◌, subst, inl, inr, true≢false, arith}
 use Rattle.names.specs.Spelling.{NoName}
 use Rattle.names.proofs.Plain.{plain_front}
 use Rattle.names.proofs.name.Name.spelled.Goals as goal

@@ -1,4 +1,4 @@
-use Rattle.std.proofs.Common.{◌≡◌, sym, refl, true≢false, arith}
+use Rattle.std.proofs.Common.{sym, refl, true≢false, arith}
 use Rattle.names.specs.Spelling.{HasOdd}
 use Rattle.names.proofs.name.spelling.has_odd.Goals as goal
 
