@@ -8,7 +8,7 @@ use Rattle.terms.specs.declared.refusal.Refusal.{Refusal}
 use Rattle.terms.specs.declared.refusal.Refusal.TheVariants.{Fineness, Full, Missing, TooHigh, BadName, Already, NoLines, NoRoom, OutOfOrder, BrokenRule, BadRoot, Unfit, BadText, NoMemory}
 use Rattle.terms.specs.declared.refusal.Refused.{Refused}
 use Rattle.terms.specs.Answers.{Answered}
-use Rattle.logic.specs.Books.{Book, Proper}
+use Rattle.logic.specs.Books.{Proper}
 use Rattle.logic.proofs.Unmet.{closed_means_unmet}
 use Rattle.logic.proofs.Truth.{standing_is_met}
 use Rattle.book.specs.States.{BookModel}

@@ -1,5 +1,5 @@
 -- The two passes of a retest make its answer.
-use Rattle.std.proofs.Common.{◌≡◌, List, Ok, Err, Result, sym, ap, subst, MatchResult}
+use Rattle.std.proofs.Common.{◌≡◌, List, Ok, Err, Result, sym, subst, MatchResult}
 use Rattle.terms.specs.declared.question.QuestionLine.{QuestionLine}
 use Rattle.terms.specs.declared.refusal.Refusal.{Refusal}
 use Rattle.terms.specs.declared.refusal.Refusal.TheVariants.{Missing, TooHigh}

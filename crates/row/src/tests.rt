@@ -3,7 +3,8 @@ ghost use Rattle.std.specs.Prelude.{◌≡◌, ℕ, ◌+◌, ◌≤◌, length, 
 ghost use Rattle.row.specs.Order.{Ascending};
 ghost use Rattle.row.specs.Placing.{InsertOutcome, InsertSorted};
 ghost use Rattle.std.specs.Ordering.{nat_cmp};
-ghost use Rattle.std.proofs.Common.{rules};
+ghost use Rattle.std.specs.Cmp.{nat_cmp_total};
+ghost use Rattle.row.specs.Numbers.{nat_cmp_agrees};
 
 use crate::{Ordered, Row, Unplaced, search};
 use std::cmp::Ordering;
@@ -22,11 +23,11 @@ impl Ordered for Card {
 
     ghost cmp = { λ x y. nat_cmp x.number y.number };
 
-    ghost total = { Prim.search rules };
+    ghost total = { λ x y. nat_cmp_total.antisymm x.number y.number };
 
-    ghost transitive = { Prim.search rules };
+    ghost transitive = { λ x y z. nat_cmp_total.trans x.number y.number z.number };
 
-    ghost agrees = { Prim.search rules };
+    ghost agrees = { λ x y. nat_cmp_agrees x.number y.number };
 
     fn compare(&self, other: &Card) -> Ordering {
         self.number.cmp(&other.number)

@@ -7,11 +7,10 @@ use Rattle.terms.specs.declared.concept.Inclusion.{Inclusion}
 use Rattle.terms.specs.declared.question.QuestionLine.{QuestionLine}
 use Rattle.terms.specs.declared.refusal.Refusal.TheVariants.{Missing}
 use Rattle.terms.proofs.Least.{free_of}
-use Rattle.terms.specs.Answers.{Answered}
 use Rattle.book.specs.Citing.{no_inclusion}
-use Rattle.book.specs.States.{BookModel, State, Entry, a_heading, a_role, a_concept, an_inclusion, a_line, Reading, spells, bad, Call, begin, enter, strike, clear, read_in, trial, blank_book, unstruck, struck_off, strike_one, after}
+use Rattle.book.specs.States.{BookModel, State, Entry, a_heading, a_role, a_concept, an_inclusion, a_line, spells, bad, Call, begin, enter, strike, clear, read_in, trial, blank_book, unstruck, struck_off, strike_one, after}
 use Rattle.book.specs.Grounds.{Ground}
-use Rattle.book.specs.Steps.{Reply, Due, left, Step}
+use Rattle.book.specs.Steps.{Reply, Due, Step}
 use Rattle.runs.specs.Lists.{gather, last, since, member}
 use Rattle.runs.specs.Histories.{Event, Run, granted, accepted_calls}
 use Rattle.runs.specs.Contents.{new_book, new_question, entered, struck_number, heading_of, role_of, concept_of, inclusion_of, line_of, those, strike_all, ground_book, ground_lines, contents}

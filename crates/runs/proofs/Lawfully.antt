@@ -1,5 +1,5 @@
 -- Every run is lawful; and a run with one call more at its end.
-use Rattle.std.proofs.Common.{◌≡◌, ℕ, ◌<◌, ◌⊎◌, ◌↔◌, List, [], ◌∷◌, ◌++◌, length, sym, refl, ap, ◌∙◌, subst, arith}
+use Rattle.std.proofs.Common.{◌≡◌, ◌<◌, ◌⊎◌, ◌↔◌, List, [], ◌∷◌, ◌++◌, length, sym, refl, ap, subst, arith}
 use Rattle.std.specs.List.{ContainsAt as Has}
 use Rattle.book.specs.States.{State, strike}
 use Rattle.book.specs.Steps.{Reply, Step}
@@ -8,7 +8,7 @@ use Rattle.runs.specs.Lists.{since}
 use Rattle.runs.specs.Histories.{Event, Run, accepted_calls}
 use Rattle.runs.specs.Contents.{new_book, ground_book}
 use Rattle.runs.specs.Calls.{meant, events}
-use Rattle.runs.specs.Laws.{Struck, Lawful, RunsAreLawful}
+use Rattle.runs.specs.Laws.{Struck, RunsAreLawful}
 use Rattle.runs.proofs.Kept.{contents_law, replies_law}
 use Rattle.runs.proofs.Outcome.{one_outcome}
 use Rattle.runs.proofs.Striking.{struck_law}

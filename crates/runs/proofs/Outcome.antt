@@ -2,14 +2,12 @@
 use Rattle.std.proofs.Common.{◌≡◌, ℕ, ◌≤◌, Bool, true, false, cond, eqb, List, [], ◌∷◌, ◌++◌, length, Ok, Err, sym, refl, ap, ◌∙◌, subst, ap₂, arith}
 use Rattle.std.specs.List.{AllByRecursion as All}
 use Rattle.std.proofs.lemmas.Bool.Decides.{nat_tests}
-use Rattle.terms.specs.declared.refusal.Refusal.{Refusal}
-use Rattle.terms.specs.declared.refusal.Refusal.TheVariants.{NoMemory}
 use Rattle.terms.specs.declared.refusal.Refused.{Refused}
 use Rattle.terms.specs.Refusals.{number}
-use Rattle.terms.specs.Answers.{Answered, Least}
+use Rattle.terms.specs.Answers.{Least}
 use Rattle.terms.proofs.Least.{free_of, least_of, one_least, exactly}
 use Rattle.book.specs.States.{State, Call, clear}
-use Rattle.book.specs.Grounds.{Ground, WantsMemory}
+use Rattle.book.specs.Grounds.{Ground}
 use Rattle.book.specs.Steps.{Reply, Due, place, left, Step}
 use Rattle.runs.specs.Histories.{Event, Run, calls, heard, counted}
 use Rattle.runs.specs.Laws.{RepliesAreExact}

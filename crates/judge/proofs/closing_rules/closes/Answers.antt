@@ -8,7 +8,7 @@ use Rattle.judge.proofs.closing_rules.closes.Goals as goal
 
 pub returns : goal.returns
 returns c =
-    Decides-like c.closes-as.result
+    Decides-like c.closes_as.result
     (λ s. record { faultless = s.faultless; rule = s.rule })
     (λ s. record { faultless = s.faultless; rule = s.rule })
-    (subst (λ (e : Entry). Decides c.closes-as.result (ClosesAs (ruled c.args.rules) (sheet_of c.args.sheet.now) c.args.k e)) c.entry-at.ensures c.closes-as.ensures)
+    (subst (λ (e : Entry). Decides c.closes_as.result (ClosesAs (ruled c.args.rules) (sheet_of c.args.sheet.now) c.args.k e)) c.entry_at.ensures c.closes_as.ensures)

@@ -12,5 +12,5 @@ returns c =
     let b = ruled c.args.rules in
     let label = c.args.e.label.lines.now in
     let sheet = sheet_of c.args.sheet.now in
-    subst (λ (ls : List Line). Decides c.keeps-rule.result (Rule h.letter b c.args.k h label (label_at sheet h.first) ls)) c.lines-at-second.ensures
-    (subst (λ (ls : List Line). Decides c.keeps-rule.result (Rule h.letter b c.args.k h label ls c.lines-at-second.result.now)) c.lines-at-first.ensures c.keeps-rule.ensures)
+    subst (λ (ls : List Line). Decides c.keeps_rule.result (Rule h.letter b c.args.k h label (label_at sheet h.first) ls)) c.lines_at-second.ensures
+    (subst (λ (ls : List Line). Decides c.keeps_rule.result (Rule h.letter b c.args.k h label ls c.lines_at-second.result.now)) c.lines_at-first.ensures c.keeps_rule.ensures)

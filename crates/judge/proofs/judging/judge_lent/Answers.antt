@@ -17,14 +17,14 @@ returns c =
     let f = c.args.sheet.now in
     let r = c.weigh.result in
     let w = subst (λ (x : Book). Weighed x qs f r) c.rules_of.ensures (subst (λ (ls : List QuestionLine). Weighed (ruled c.rules_of.result) ls f r) c.lines.ensures c.weigh.ensures) in
-    let j = by_weighing b qs f tt c.in-ok-retest.ensures (every_book_is_proper c.args.book.now) r w in
+    let j = by_weighing b qs f tt c.in_ok-retest.ensures (every_book_is_proper c.args.book.now) r w in
     record { judged = j; exact = exact b qs f r j }
 
-pub returns-in-err-retest : goal.returns-in-err-retest
-returns-in-err-retest c =
+pub returns-in_err-retest : goal.returns-in_err-retest
+returns-in_err-retest c =
     let b = model c.args.book.now in
     let qs = asked c.args.question.now in
     let f = c.args.sheet.now in
-    let p = err_from_is_err_and c.from-residual.result c.from-residual.ensures.1 in
-    let j = subst (Judged b qs f) (sym (p.1 ∙ ap (λ x. Err x) p.2)) (by_retest b qs f _ c.in-err-retest.ensures) in
-    record { judged = j; exact = exact b qs f c.from-residual.result j }
+    let p = err_from_is_err_and c.from_residual.result c.from_residual.ensures.1 in
+    let j = subst (Judged b qs f) (sym (p.1 ∙ ap (λ x. Err x) p.2)) (by_retest b qs f _ c.in_err-retest.ensures) in
+    record { judged = j; exact = exact b qs f c.from_residual.result j }

@@ -6,4 +6,4 @@ use Rattle.judge.proofs.roots.root_carries.Goals as goal
 
 pub returns : goal.returns
 returns c =
-    subst (λ (ls : List Line). Decides c.carries-all-asked.result (EachAsked (λ q. Carries c.args.rules.fineness ls (half_line q)) c.args.question.now)) c.label-at.ensures c.carries-all-asked.ensures
+    subst (λ (ls : List Line). Decides c.carries_all_asked.result (EachAsked (λ q. Carries c.args.rules.fineness ls (half_line q)) c.args.question.now)) c.label_at.ensures c.carries_all_asked.ensures

@@ -6,4 +6,4 @@ use Rattle.judge.proofs.roots.root_is_asked.Goals as goal
 
 pub returns : goal.returns
 returns c =
-    subst (λ (ls : List Line). Decides c.root-asks.result (EachLine (λ l. AnyAsked (λ q. half_line q ≡ l) c.args.question.now) ls)) c.lines-at.ensures c.root-asks.ensures
+    subst (λ (ls : List Line). Decides c.root_asks.result (EachLine (λ l. AnyAsked (λ q. half_line q ≡ l) c.args.question.now) ls)) c.lines_at.ensures c.root_asks.ensures

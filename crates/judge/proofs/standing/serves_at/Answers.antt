@@ -7,4 +7,4 @@ use Rattle.judge.proofs.standing.serves_at.Goals as goal
 pub returns : goal.returns
 returns c =
     let z = c.args.z in
-    subst (λ (ls : List Line). Decides c.serves.result (Serves (ruled c.args.rules) c.args.from.now z.role z.part z.bound ls)) c.label-at.ensures c.serves.ensures
+    subst (λ (ls : List Line). Decides c.serves.result (Serves (ruled c.args.rules) c.args.from.now z.role z.part z.bound ls)) c.label_at.ensures c.serves.ensures

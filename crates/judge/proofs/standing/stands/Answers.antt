@@ -8,7 +8,7 @@ use Rattle.judge.proofs.standing.stands.Goals as goal
 
 pub returns : goal.returns
 returns c =
-    Decides-like c.stands-as.result
+    Decides-like c.stands_as.result
     (λ s. record { faultless = s.faultless; letter = s.letter; unused = s.unused; settled = s.settled })
     (λ s. record { faultless = s.faultless; letter = s.letter; unused = s.unused; settled = s.settled })
-    (subst (λ (e : Entry). Decides c.stands-as.result (StandsAs (ruled c.args.rules) (sheet_of c.args.sheet.now) e)) c.entry-at.ensures c.stands-as.ensures)
+    (subst (λ (e : Entry). Decides c.stands_as.result (StandsAs (ruled c.args.rules) (sheet_of c.args.sheet.now) e)) c.entry_at.ensures c.stands_as.ensures)

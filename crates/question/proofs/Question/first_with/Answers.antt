@@ -4,12 +4,12 @@ use Rattle.question.specs.Retests.{FirstLine, SomeLine}
 use Rattle.question.proofs.Question.first_with.Goals as goal
 
 pub loop-k-preserved : goal.loop-k-preserved
-loop-k-preserved c = below_more _ _ c.loop-k.invariant (λ h. true≢false (sym (c.line-has.ensures.1 h) ∙ c.if-line-has.false))
+loop-k-preserved c = below_more _ _ c.loop-k.invariant (λ h. true≢false (sym (c.line_has.ensures.1 h) ∙ c.if-line_has.false))
 
-pub returns-then-line-has : goal.returns-then-line-has
-returns-then-line-has c =
+pub returns-then-line_has : goal.returns-then-line_has
+returns-then-line_has c =
     subst (λ qs. FirstLine (model c.args.book.now) qs c.args.ground c.loop-k.k) c.lines-lines.ensures
-    (record { stands = c.loop-k-test.true; applies = c.line-has.ensures.0 c.if-line-has.true; first = c.loop-k.invariant })
+    (record { stands = c.loop-k-test.true; applies = c.line_has.ensures.0 c.if-line_has.true; first = c.loop-k.invariant })
 
 pub returns : goal.returns
 unfolding SomeLine

@@ -1,4 +1,4 @@
-use Rattle.std.proofs.Common.{◌≡◌, ℕ, ◌+◌, ◌<◌, ◌≤◌, List, [], ◌∷◌, ◌++◌, length, get_or, take, vec_items, vec_len, sym, refl, ap, ◌∙◌, subst, arith, length-take-le, take_all, rules}
+use Rattle.std.proofs.Common.{◌≡◌, ◌+◌, [], ◌∷◌, ◌++◌, length, get_or, take, vec_items, sym, refl, ap, ◌∙◌, subst, arith, length-take-le, take_all, rules}
 use Rattle.std.proofs.lemmas.List.{take_more}
 use Rattle.book.specs.States.{State}
 use Rattle.book.specs.Models.{model}
@@ -25,8 +25,8 @@ loop-call-preserved c =
     let after : State = beside (model c.perform-reply.new.book) (asked c.perform-reply.new.question) in
     let long : length (take i cs) ≡ length rs = omega (arith, length-take-le i cs (omega arith), c.loop-call.replies.ok.0, c.loop-call.invariant.1) in
     let ev : Event = record { call = meant (get_or cs i d); reply = reply } in
-    let e : events (take (i + 1) cs) (vec_items c.push-reserved.new.self) ≡ events (take i cs) rs ++ ev ∷ [] =
-    ap (events (take (i + 1) cs)) c.push-reserved.ensures.items
+    let e : events (take (i + 1) cs) (vec_items c.push_reserved.new.self) ≡ events (take i cs) rs ++ ev ∷ [] =
+    ap (events (take (i + 1) cs)) c.push_reserved.ensures.items
     ∙ ap (λ ts. events ts (rs ++ reply ∷ [])) (take_more cs i d c.loop-call-test.true)
     ∙ events_push (take i cs) rs (get_or cs i d) reply long in (
       subst (λ h. Run first h after) (sym e) (run_push first before after (events (take i cs) rs) ev c.loop-call.invariant.0 c.perform-reply.ensures),
