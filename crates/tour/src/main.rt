@@ -6,6 +6,7 @@ mod sheets;
 mod shows;
 
 use acts::Action;
+use anyhow::anyhow;
 use book::Book;
 use question::Question;
 use runs::perform;
@@ -13,7 +14,8 @@ use terms::refusal::Refused;
 
 // Why the tour could not go on.
 fn told(why: Refused) -> anyhow::Error {
-    why.refusal.words().into()
+    let words = why.refusal.words();
+    anyhow!("{words}")
 }
 
 // Makes each call and prints what it was and what came of it.
