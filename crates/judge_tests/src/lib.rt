@@ -2,7 +2,7 @@
 #![tactic(auto)]
 
 #[cfg(test)]
-mod closing;
+mod closing_sheets;
 #[cfg(test)]
 mod standing;
 #[cfg(test)]

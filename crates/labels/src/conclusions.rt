@@ -1,6 +1,6 @@
 // What follows from a line of a label at the same individual.
 ghost use Rattle.std.specs.Prelude.{◌≡◌, ◌*◌, ◌⊎◌, pos, ◌+ℤ◌, ◌-ℤ◌, Decides};
-ghost use Rattle.std.specs.List.{AllByRecursion as All};
+ghost use Rattle.std.specs.List.{AllByRecursion};
 ghost use Rattle.logic.specs.Lines.{line, other, EachLine, Carries};
 ghost use Rattle.logic.specs.Conclusions.{conclusions, conclusions_of, Among};
 ghost use Rattle.logic.specs.Standing.{Chooses, CarriesConclusions};
@@ -96,7 +96,7 @@ pub fn concludes(rules: Rules<'_>, from: Line, l: Line) -> bool
 
 // Whether the label carries all of them.
 fn carries_all(fineness: u32, label: Label<'_>, all: Follows) -> bool
-    ensures { Decides result (All (Carries fineness label.entry.lines.now) (followed all)) }
+    ensures { Decides result (AllByRecursion (Carries fineness label.entry.lines.now) (followed all)) }
 {
     match all {
         Follows::Nothing => true,

@@ -2,7 +2,7 @@
 use Rattle.std.proofs.Common.{◌≡◌, ℕ, ◌*◌, ◌<◌, ◌≤◌, Bool, true, false, cond, List, [], ◌∷◌, length, ℤ, pos, ◌+ℤ◌, ◌≤ℤ◌, sym, refl, ap, ◌∙◌, subst, inl, inr, arith}
 use lib.Signed.{lt_z}
 use native.Mathlib.Decide.{dec_lt, dec_le}
-use Rattle.std.specs.List.{AllByRecursion as All}
+use Rattle.std.specs.List.{AllByRecursion}
 use Rattle.std.proofs.lemmas.List.FromFn.{length-map-range_with_len, get_or-map-range_with_len}
 use Rattle.std.proofs.lemmas.Int.{ints, by_lt_z}
 use Rattle.terms.specs.declared.concept.Concept.{Concept}
@@ -31,13 +31,13 @@ use Rattle.logic.proofs.Truth.{read_within, true_of}
 use Rattle.logic.proofs.Told.{Told, IsBelow, told_each, told_line, below_rises}
 
 -- conclusions are on parts
-conclusions_lower : (n c : ℕ) (form : Concept) (s : Side) (z : ℤ) → BuildsOn n c form → All (λ l. l.concept < c) (conclusions n form s z)
+conclusions_lower : (n c : ℕ) (form : Concept) (s : Side) (z : ℤ) → BuildsOn n c form → AllByRecursion (λ l. l.concept < c) (conclusions n form s z)
 conclusions_lower n c (Heading p) s z l = tt
 conclusions_lower n c (Constant k) s z l = tt
 conclusions_lower n c (Not d) s z l = (l, tt)
 conclusions_lower n c (Less d k) AtLeast z l = go (lt_z z (pos 1))
   where
-    go : (t : Bool) → All (λ l. l.concept < c) (cond t [] (line d AtLeast (z +ℤ pos (2 * k)) ∷ []))
+    go : (t : Bool) → AllByRecursion (λ l. l.concept < c) (cond t [] (line d AtLeast (z +ℤ pos (2 * k)) ∷ []))
     go true = tt
     go false = (l.0, tt)
 conclusions_lower n c (Less d k) AtMost z l = (l.0, tt)
@@ -106,7 +106,7 @@ module _ (b : Book) (ok : Proper b) (H : Holding) where
   carry_line y l = carry y l.concept l.side l.bound
 
   module _ (y : ℕ) where
-    concludes : (l : Line) → HasLine (label y) l → All (Carries b.fineness (label y)) (conclusions_of b l)
+    concludes : (l : Line) → HasLine (label y) l → AllByRecursion (Carries b.fineness (label y)) (conclusions_of b l)
     concludes l has =
         let new = conclusions_of b l in
         let keep = concluded_kept b ok G within halfs y l (kept y l has) in

@@ -1,7 +1,7 @@
 -- What an individual keeps in a holding whose degrees are half steps: with a line its conclusions, no clash, and elsewhere what is passed on.
 use Rattle.std.proofs.Common.{◌≡◌, ℕ, ◌*◌, ◌<◌, ◌≤◌, min, Bool, true, false, cond, List, [], ◌∷◌, ℤ, pos, negsuc, ◌+ℤ◌, ◌≤ℤ◌, sym, refl, ◌∙◌, subst, inl, inr, arith}
 use lib.Signed.{lt_z}
-use Rattle.std.specs.List.{AllByRecursion as All}
+use Rattle.std.specs.List.{AllByRecursion}
 use Rattle.std.proofs.lemmas.Int.{ints}
 use Rattle.terms.specs.declared.concept.Concept.{Concept}
 use Rattle.terms.specs.declared.concept.Concept.TheVariants.{Heading, Constant, Not, Less, Lesser, Exists}
@@ -28,14 +28,14 @@ natural_of (negsuc t) h = absurd (omega (arith, ints))
 -- each conclusion of a line that is kept is kept
 conclusions_keep : (G : Holding) (n : ℕ) → G.top ≡ 2 * n → (f : ℕ → ℕ → ℕ) → ((c x : ℕ) → f c x ≤ 2 * n) →
     (x : ℕ) (form : Concept) (s : Side) (z : ℤ) → Keeps s z (form_degree G 2 form f x) →
-    All (λ l. Keeps l.side l.bound (f l.concept x)) (conclusions n form s z)
+    AllByRecursion (λ l. Keeps l.side l.bound (f l.concept x)) (conclusions n form s z)
 conclusions_keep G n t f fits x (Heading p) s z h = tt
 conclusions_keep G n t f fits x (Constant k) s z h = tt
 conclusions_keep G n t f fits x (Not c) AtLeast z h = (omega (arith, ints, fits c x), tt)
 conclusions_keep G n t f fits x (Not c) AtMost z h = (omega (arith, ints, fits c x), tt)
 conclusions_keep G n t f fits x (Less c k) AtLeast z h = go (lt_z z (pos 1)) refl
   where
-    go : (t : Bool) → lt_z z (pos 1) ≡ t → All (λ l. Keeps l.side l.bound (f l.concept x)) (cond t [] (line c AtLeast (z +ℤ pos (2 * k)) ∷ []))
+    go : (t : Bool) → lt_z z (pos 1) ≡ t → AllByRecursion (λ l. Keeps l.side l.bound (f l.concept x)) (cond t [] (line c AtLeast (z +ℤ pos (2 * k)) ∷ []))
     go true e = tt
     go false e = (omega (arith, ints), tt)
 conclusions_keep G n t f fits x (Less c k) AtMost z h = (omega (arith, ints), tt)
@@ -44,7 +44,7 @@ conclusions_keep G n t f fits x (Lesser c d) AtMost z h = tt
 conclusions_keep G n t f fits x (Exists r c) s z h = tt
 
 module _ (b : Book) (ok : Proper b) (G : Holding) (within : Within G) (halfs : G.top ≡ 2 * b.fineness) where
-  pub concluded_kept : (x : ℕ) (l : Line) → Kept b G x l → All (Kept b G x) (conclusions_of b l)
+  pub concluded_kept : (x : ℕ) (l : Line) → Kept b G x l → AllByRecursion (Kept b G x) (conclusions_of b l)
   concluded_kept x l k =
       conclusions_keep G b.fineness halfs (degree b G) (half_fits b ok G halfs within) x (concept_at b l.concept) l.side l.bound
       (subst (Keeps l.side l.bound) (half_at b ok G halfs l.concept x (concept_at b l.concept) refl) k)

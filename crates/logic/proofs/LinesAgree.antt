@@ -1,7 +1,7 @@
 -- The computing forms of the relations on lists, lines and entries agree with them.
 use Rattle.std.proofs.Common.{◌≡◌, ℕ, ◌+◌, ◌-◌, ◌*◌, ◌<◌, ◌≤◌, Bool, true, false, not, ◌&&◌, ◌||◌, T, leb, ◌⊎◌, List, [], ◌∷◌, length, ℤ, pos, negsuc, ◌≤ℤ◌, ◌<ℤ◌, Decides, sym, refl, ap, subst, arith}
 use lib.Signed.{lt_z, le_z}
-use Rattle.std.specs.List.{AllByRecursion as All}
+use Rattle.std.specs.List.{AllByRecursion}
 use Rattle.std.proofs.ByRecursion.{All-get_or, All-from_get_or, Decides-by_and}
 use Rattle.std.proofs.lemmas.List.{get_or_default}
 use Rattle.std.proofs.lemmas.Int.{ints}
@@ -82,7 +82,7 @@ pub unless : {Q : Type 0} (x : Bool) {y : Bool} → Decides y Q → Decides (x |
 unless true d = always (λ e. absurd (let z : ◌≡◌ {A = ℕ} 0 1 = cc in omega arith))
 unless false d = (λ t e. d.0 t, λ f. d.1 (f refl))
 
-pub all_agrees : {X : Type 0} {p : X → Bool} {P : X → Type 0} → ((x : X) → Decides (p x) (P x)) → (xs : List X) → Decides (all_test p xs) (All P xs)
+pub all_agrees : {X : Type 0} {p : X → Bool} {P : X → Type 0} → ((x : X) → Decides (p x) (P x)) → (xs : List X) → Decides (all_test p xs) (AllByRecursion P xs)
 all_agrees {p = p} {P = P} each xs = Decides-by_and p P (all_test p) each refl (λ _ _. refl) xs
 
 -- by places, whatever is read past the end

@@ -1,6 +1,6 @@
 -- What stands in a list: as its parts say it, and by places; and what stands in a label.
 use Rattle.std.proofs.Common.{◌≡◌, ℕ, zero, suc, ◌<◌, ◌⊎◌, List, [], ◌∷◌, length, get_or, ℤ, sym, refl, ◌∙◌, subst, inl, inr, arith}
-use Rattle.std.specs.List.{ContainsAt as Has, AllByRecursion as All}
+use Rattle.std.specs.List.{ContainsAt as Has, AllByRecursion}
 use Rattle.std.proofs.ByRecursion.{has_get_or}
 use Rattle.terms.specs.declared.line.Line.{Line}
 use Rattle.logic.specs.Places.{Each, Any}
@@ -51,12 +51,12 @@ module _ {X : Type 0} (d : X) where
   any_from P xs x h p = (h.0, h.1, subst P (sym h.2) p)
 
 -- ---- conclusions
-pub all_among : (P : Line → Type 0) (ls : List Line) (l : Line) → All P ls → Among ls l → P l
+pub all_among : (P : Line → Type 0) (ls : List Line) (l : Line) → AllByRecursion P ls → Among ls l → P l
 all_among P [] l all h = absurd h
 all_among P (m ∷ ms) l all (inl e) = subst P (sym e) all.0
 all_among P (m ∷ ms) l all (inr h) = all_among P ms l all.1 h
 
-pub all_from_among : (P : Line → Type 0) (ls : List Line) → ((l : Line) → Among ls l → P l) → All P ls
+pub all_from_among : (P : Line → Type 0) (ls : List Line) → ((l : Line) → Among ls l → P l) → AllByRecursion P ls
 all_from_among P [] f = tt
 all_from_among P (m ∷ ms) f = (f m (inl refl), all_from_among P ms (λ l h. f l (inr h)))
 

@@ -1,7 +1,7 @@
 -- The label that says of each concept its degree: which lines it has, and that they rise.
 use Rattle.std.proofs.Common.{◌≡◌, ℕ, zero, suc, ◌*◌, ◌<◌, Bool, true, false, cond, ltb, List, [], ◌∷◌, ◌++◌, length, ℤ, pos, sym, refl, subst, inl, inr, add-one, arith}
 use native.Mathlib.Decide.{dec_lt}
-use Rattle.std.specs.List.{ContainsAt as Has, AllByRecursion as All}
+use Rattle.std.specs.List.{ContainsAt as Has, AllByRecursion}
 use Rattle.std.proofs.ByRecursion.{All-get_or, All-append, All-weaker, has_append_left, has_append_right}
 use Rattle.std.proofs.lemmas.Bool.{ltb-true, ltb-false}
 use Rattle.terms.specs.declared.line.Side.{Side}
@@ -15,9 +15,9 @@ use Rattle.logic.proofs.Members.{has_head, has_tail, has_at_place}
 -- ---- labels that rise, element by element
 abbrev Sorted : List Line → Type 0
 Sorted [] = Unit {0}
-Sorted (l ∷ ls) = All (Before l) ls × Sorted ls
+Sorted (l ∷ ls) = AllByRecursion (Before l) ls × Sorted ls
 
-sorted_append : (xs ys : List Line) → Sorted xs → Sorted ys → All (λ x. All (Before x) ys) xs → Sorted (xs ++ ys)
+sorted_append : (xs ys : List Line) → Sorted xs → Sorted ys → AllByRecursion (λ x. AllByRecursion (Before x) ys) xs → Sorted (xs ++ ys)
 sorted_append [] ys p q r = q
 sorted_append (x ∷ xs) ys p q r = (All-append (Before x) xs ys p.0 r.0, sorted_append xs ys p.1 q r.1)
 
@@ -71,10 +71,10 @@ module _ (n c v : ℕ) where
   abbrev IsTold : Line → Type 0
   IsTold l = (l.concept ≡ c) × Told n v l.side l.bound
 
-  told_all : All IsTold (told n c v)
+  told_all : AllByRecursion IsTold (told n c v)
   told_all = go (ltb 0 v) (ltb v (2 * n)) refl refl
     where
-      go : (p q : Bool) → ltb 0 v ≡ p → ltb v (2 * n) ≡ q → All IsTold (pair p q)
+      go : (p q : Bool) → ltb 0 v ≡ p → ltb v (2 * n) ≡ q → AllByRecursion IsTold (pair p q)
       go true true e f = ((refl, (refl, ltb-true 0 v e)), ((refl, (refl, ltb-true v (2 * n) f)), tt))
       go true false e f = ((refl, (refl, ltb-true 0 v e)), tt)
       go false true e f = ((refl, (refl, ltb-true v (2 * n) f)), tt)
@@ -86,7 +86,7 @@ module _ (n : ℕ) (v : ℕ → ℕ) where
   abbrev pub IsBelow : ℕ → Line → Type 0
   IsBelow m l = (l.concept < m) × Told n (v l.concept) l.side l.bound
 
-  below_all : (m : ℕ) → All (IsBelow m) (told_below n v m)
+  below_all : (m : ℕ) → AllByRecursion (IsBelow m) (told_below n v m)
   below_all zero = tt
   below_all (suc m) =
       All-append (IsBelow (suc m)) (told_below n v m) (told n m (v m))
@@ -108,7 +108,7 @@ module _ (n : ℕ) (v : ℕ → ℕ) where
   below_sorted zero = tt
   below_sorted (suc m) =
       sorted_append (told_below n v m) (told n m (v m)) (below_sorted m) (told_sorted n m (v m))
-      (All-weaker (IsBelow m) (λ l. All (Before l) (told n m (v m)))
+      (All-weaker (IsBelow m) (λ l. AllByRecursion (Before l) (told n m (v m)))
       (λ l h. All-weaker (IsTold n m (v m)) (Before l) (λ k t. inl (omega (arith, h.0, t.0))) (told n m (v m)) (told_all n m (v m)))
       (told_below n v m) (below_all m))
 

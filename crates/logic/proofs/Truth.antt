@@ -4,7 +4,7 @@ use Prim.Native.Nat.{◌∣◌}
 use lib.Signed.{lt_z}
 use native.Mathlib.Decide.{dec_lt}
 use native.Mathlib.Nat.{dvd-mul_left}
-use Rattle.std.specs.List.{AllByRecursion as All}
+use Rattle.std.specs.List.{AllByRecursion}
 use Rattle.std.proofs.lemmas.List.{get_or_past}
 use Rattle.std.proofs.lemmas.Int.{ints, by_lt_z}
 use Rattle.terms.specs.declared.concept.Concept.{Concept}
@@ -128,8 +128,8 @@ module _ (b : Book) (ok : Proper b) (sheet : List Entry) (settled : (x : ℕ) �
     carries_conclusions l h = each_has blank_line (CarriesConclusions b label) label l (settled x lx).conclusions h
 
     concludes : (c : ℕ) (s : Side) (z : ℤ) (form : Concept) → HasLine label (line c s z) → concept_at b c ≡ form →
-        All (Carries b.fineness label) (conclusions b.fineness form s z)
-    concludes c s z form h e = subst (λ f. All (Carries b.fineness label) (conclusions b.fineness f s z)) e (carries_conclusions (line c s z) h).all
+        AllByRecursion (Carries b.fineness label) (conclusions b.fineness form s z)
+    concludes c s z form h e = subst (λ f. AllByRecursion (Carries b.fineness label) (conclusions b.fineness f s z)) e (carries_conclusions (line c s z) h).all
 
     chooses : (c : ℕ) (s : Side) (z : ℤ) (form : Concept) → HasLine label (line c s z) → concept_at b c ≡ form → Chooses b.fineness label form s z
     chooses c s z form h e = subst (λ f. Chooses b.fineness label f s z) e (carries_conclusions (line c s z) h).one
@@ -159,7 +159,7 @@ module _ (b : Book) (ok : Proper b) (sheet : List Entry) (settled : (x : ℕ) �
       on_less : (d k : ℕ) → concept_at b c ≡ Less d k → d < c → (s : Side) (z : ℤ) → HasLine label (line c s z) → Keeps s z (degree b R c x)
       on_less d k e lt AtLeast z h = go (lt_z z (pos 1)) refl (concludes c AtLeast z (Less d k) h e)
         where
-          go : (t : Bool) → lt_z z (pos 1) ≡ t → All (Carries b.fineness label) (cond t [] (line d AtLeast (z +ℤ pos (2 * k)) ∷ [])) → Keeps AtLeast z (degree b R c x)
+          go : (t : Bool) → lt_z z (pos 1) ≡ t → AllByRecursion (Carries b.fineness label) (cond t [] (line d AtLeast (z +ℤ pos (2 * k)) ∷ [])) → Keeps AtLeast z (degree b R c x)
           go true i a = omega (arith, ints)
           go false i a =
               let m = carried (line d AtLeast (z +ℤ pos (2 * k))) (ih d lt) x lx a.0 in

@@ -1,6 +1,6 @@
 -- Standing sheets (complete tableaux without a clash): from them a holding is read out.
 use Rattle.std.specs.Prelude.{◌≡◌, ℕ, ◌*◌, ◌<◌, false, ◌⊎◌, List, length, ℤ, pos, ◌≤ℤ◌}
-use Rattle.std.specs.List.{AllByRecursion as All}
+use Rattle.std.specs.List.{AllByRecursion}
 use Rattle.terms.specs.declared.concept.Concept.{Concept}
 use Rattle.terms.specs.declared.concept.Concept.TheVariants.{Heading, Constant, Not, Less, Lesser, Exists}
 use Rattle.terms.specs.declared.concept.Inclusion.{Inclusion}
@@ -28,7 +28,7 @@ Chooses fineness label (Exists r c) s z = Unit {0}
 
 -- The label carries what its line l concludes.
 pub record CarriesConclusions (b : Book) (label : List Line) (l : Line) : Type 0 where
-  pub all : All (Carries b.fineness label) (conclusions_of b l)
+  pub all : AllByRecursion (Carries b.fineness label) (conclusions_of b l)
   pub one : Chooses b.fineness label (concept_at b l.concept) l.side l.bound
 
 -- z is the smallest number with P, or `most` if there is none or that is smaller.

@@ -1,6 +1,6 @@
 -- Book and question are what the accepted calls say: one call more, and so every run.
 use Rattle.std.proofs.Common.{◌≡◌, ℕ, zero, suc, ◌+◌, ◌<◌, ◌≤◌, Bool, true, false, ◌||◌, eqb, List, [], ◌∷◌, ◌++◌, length, get_or, set, Ok, Err, sym, refl, ap, ◌∙◌, subst, ap₂, append_assoc, append-nil, le_of_suc-le-suc, not-suc-le-zero, arith}
-use Rattle.std.specs.List.{AllByRecursion as All}
+use Rattle.std.specs.List.{AllByRecursion}
 use Rattle.std.proofs.lemmas.List.{length-append}
 use Rattle.std.proofs.lemmas.Bool.Decides.{nat_tests}
 use Rattle.terms.specs.declared.concept.Inclusion.{Inclusion}
@@ -71,19 +71,19 @@ strike_is_one i xs h = strike_at i 0 i xs (omega arith) h
 not_eqb : (a b : ℕ) → a < b → eqb a b ≡ false
 not_eqb a b h = grind (arith, nat_tests)
 
-past_member : (k : ℕ) (ss : List ℕ) → All (λ i. i < k) ss → member k ss ≡ false
+past_member : (k : ℕ) (ss : List ℕ) → AllByRecursion (λ i. i < k) ss → member k ss ≡ false
 past_member k [] h = refl
 past_member k (s ∷ ss) h = ap₂ (λ a b. a || b) (not_eqb s k h.0) (past_member k ss h.1)
 
-all_more : {A : Type 0} (P Q : A → Type 0) (xs : List A) → ((x : A) → P x → Q x) → All P xs → All Q xs
+all_more : {A : Type 0} (P Q : A → Type 0) (xs : List A) → ((x : A) → P x → Q x) → AllByRecursion P xs → AllByRecursion Q xs
 all_more P Q [] f h = tt
 all_more P Q (x ∷ xs) f h = (f x h.0, all_more P Q xs f h.1)
 
-all_append : {A : Type 0} (P : A → Type 0) (xs ys : List A) → All P xs → All P ys → All P (xs ++ ys)
+all_append : {A : Type 0} (P : A → Type 0) (xs ys : List A) → AllByRecursion P xs → AllByRecursion P ys → AllByRecursion P (xs ++ ys)
 all_append P [] ys h g = g
 all_append P (x ∷ xs) ys h g = (h.0, all_append P xs ys h.1 g)
 
-strike_past : (ss : List ℕ) (k : ℕ) (xs : List Inclusion) (c d : ℕ) → All (λ i. i < k + length xs) ss
+strike_past : (ss : List ℕ) (k : ℕ) (xs : List Inclusion) (c d : ℕ) → AllByRecursion (λ i. i < k + length xs) ss
     → strike_all ss k (xs ++ unstruck c d ∷ []) ≡ strike_all ss k xs ++ unstruck c d ∷ []
 strike_past ss k [] c d h = ap (λ (y : Inclusion). y ∷ []) (inclusion_path (unstruck c d) (past_member k ss (all_more (λ i. i < k + 0) (λ i. i < k) ss (λ i p. omega arith) h)))
 strike_past ss k (x ∷ xs) c d h =
@@ -116,7 +116,7 @@ made b cs q ds = record { book = made_book b cs; question = q ++ those line_of d
 
 -- every number struck since is that of an inclusion
 abbrev Stand : BookModel → List Call → Type 0
-Stand b cs = All (λ i. i < length (b.inclusions ++ those inclusion_of cs)) (gather struck_number cs)
+Stand b cs = AllByRecursion (λ i. i < length (b.inclusions ++ those inclusion_of cs)) (gather struck_number cs)
 
 unmoved : (b : BookModel) (cs : List Call) (c : Call) → gather inclusion_of (entered c) ≡ [] → struck_number c ≡ []
     → strike_all (gather struck_number (cs ++ c ∷ [])) 0 (b.inclusions ++ those inclusion_of (cs ++ c ∷ [])) ≡ strike_all (gather struck_number cs) 0 (b.inclusions ++ those inclusion_of cs)
@@ -229,16 +229,16 @@ module _ (s : State) where
   grown cs (trial q) st free = idle cs (trial q) refl refl refl refl
 
   -- the numbers struck go on to stand
-  stand_on : (b : BookModel) (cs : List Call) (c : Call) → Stand b cs → All (λ i. i < length (b.inclusions ++ those inclusion_of cs)) (struck_number c) → Stand b (cs ++ c ∷ [])
+  stand_on : (b : BookModel) (cs : List Call) (c : Call) → Stand b cs → AllByRecursion (λ i. i < length (b.inclusions ++ those inclusion_of cs)) (struck_number c) → Stand b (cs ++ c ∷ [])
   stand_on b cs c st h =
       let xs = b.inclusions ++ those inclusion_of cs in
       let ys = gather inclusion_of (entered c) in
-      subst (λ zs. All (λ i. i < length zs) (gather struck_number (cs ++ c ∷ []))) (sym (more inclusion_of b.inclusions cs c))
-      (subst (All (λ i. i < length (xs ++ ys))) (sym (gather_push struck_number cs c))
+      subst (λ zs. AllByRecursion (λ i. i < length zs) (gather struck_number (cs ++ c ∷ []))) (sym (more inclusion_of b.inclusions cs c))
+      (subst (AllByRecursion (λ i. i < length (xs ++ ys))) (sym (gather_push struck_number cs c))
       (all_more (λ i. i < length xs) (λ i. i < length (xs ++ ys)) (gather struck_number cs ++ struck_number c) (λ i p. omega (arith, length-append xs ys))
       (all_append (λ i. i < length xs) (gather struck_number cs) (struck_number c) st h)))
 
-  stands_quiet : (cs : List Call) (c : Call) → new_book c ≡ [] → Stands cs → All (λ i. i < length ((ground_book s cs).inclusions ++ those inclusion_of (since new_book cs))) (struck_number c) → Stands (cs ++ c ∷ [])
+  stands_quiet : (cs : List Call) (c : Call) → new_book c ≡ [] → Stands cs → AllByRecursion (λ i. i < length ((ground_book s cs).inclusions ++ those inclusion_of (since new_book cs))) (struck_number c) → Stands (cs ++ c ∷ [])
   stands_quiet cs c e st h = stand_path (book_quiet cs c e) (since_quiet new_book cs c e) (stand_on (ground_book s cs) (since new_book cs) c st h)
 
   stands_on : (cs : List Call) (c : Call) → Stands cs → Free cs c → Stands (cs ++ c ∷ [])

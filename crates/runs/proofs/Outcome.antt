@@ -1,6 +1,6 @@
 -- One list of calls has one outcome.
 use Rattle.std.proofs.Common.{◌≡◌, ℕ, ◌≤◌, Bool, true, false, cond, eqb, List, [], ◌∷◌, ◌++◌, length, Ok, Err, sym, refl, ap, ◌∙◌, subst, ap₂, arith}
-use Rattle.std.specs.List.{AllByRecursion as All}
+use Rattle.std.specs.List.{AllByRecursion}
 use Rattle.std.proofs.lemmas.Bool.Decides.{nat_tests}
 use Rattle.terms.specs.declared.refusal.Refused.{Refused}
 use Rattle.terms.specs.Refusals.{number}
@@ -33,15 +33,15 @@ some_number n e = grind (arith, nat_tests)
 
 module _ (e : Event) (P : Event → Type 0) (hs : List Event) where
   -- what holds of the event if it is heard, and of the rest, holds of all
-  heard_cons : (r : Reply) → (Heard r → P e) → All P hs → All P (heard e r ++ hs)
+  heard_cons : (r : Reply) → (Heard r → P e) → AllByRecursion P hs → AllByRecursion P (heard e r ++ hs)
   heard_cons (Ok k) f a = (f tt, a)
   heard_cons (Err x) f a = go (eqb (number x.refusal) 0) refl
     where
-      go : (b : Bool) → eqb (number x.refusal) 0 ≡ b → All P (cond b [] (e ∷ []) ++ hs)
+      go : (b : Bool) → eqb (number x.refusal) 0 ≡ b → AllByRecursion P (cond b [] (e ∷ []) ++ hs)
       go true p = a
       go false p = (f (some_number (number x.refusal) p), a)
 
-all_heard : (h : List Event) → All (λ (x : Event). Heard x.reply) (counted h)
+all_heard : (h : List Event) → AllByRecursion (λ (x : Event). Heard x.reply) (counted h)
 all_heard [] = tt
 all_heard (e ∷ h) = heard_cons e (λ (x : Event). Heard x.reply) (counted h) e.reply (λ k. k) (all_heard h)
 
@@ -70,7 +70,7 @@ one_reply s c (Err x) (Err y) u v a b =
     let p : x.place ≡ y.place = a.1 ∙ ap (place c) e ∙ sym b.1 in
     λ i. Err (record { refusal = e i; place = p i })
 
-one : (s t u : State) (h g : List Event) → All (λ (x : Event). Heard x.reply) h → All (λ (x : Event). Heard x.reply) g → calls h ≡ calls g → Run s h t → Run s g u → (h ≡ g) × (t ≡ u)
+one : (s t u : State) (h g : List Event) → AllByRecursion (λ (x : Event). Heard x.reply) h → AllByRecursion (λ (x : Event). Heard x.reply) g → calls h ≡ calls g → Run s h t → Run s g u → (h ≡ g) × (t ≡ u)
 unfolding first rest
 one s t u [] [] x y e r q = (refl, r ∙ sym q)
 one s t u [] (b ∷ g) x y e r q = absurd (omega (arith, ap length e))

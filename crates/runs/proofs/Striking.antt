@@ -1,6 +1,6 @@
 -- An inclusion is struck exactly if the book had it so or a call struck it.
 use Rattle.std.proofs.Common.{◌≡◌, ℕ, zero, suc, ◌+◌, ◌<◌, Bool, true, false, cond, ◌||◌, eqb, ◌⊎◌, ◌↔◌, List, [], ◌∷◌, ◌++◌, length, get_or, sym, refl, ap, ◌∙◌, subst, ap₂, inl, inr, le_of_suc-le-suc, not-suc-le-zero, arith}
-use Rattle.std.specs.List.{ContainsAt as Has, AllByRecursion as All}
+use Rattle.std.specs.List.{ContainsAt as Has, AllByRecursion}
 use Rattle.std.proofs.lemmas.Bool.Decides.{nat_tests}
 use Rattle.terms.specs.declared.concept.Inclusion.{Inclusion}
 use Rattle.book.specs.Citing.{no_inclusion}
@@ -18,17 +18,17 @@ struck_at ss k (suc i) (x ∷ xs) h = struck_at ss (suc k) i xs (le_of_suc-le-su
 abbrev Fresh : Inclusion → Type 0
 Fresh x = x.struck ≡ false
 
-fresh_at : (i : ℕ) (xs : List Inclusion) → All Fresh xs → (get_or xs i no_inclusion).struck ≡ false
+fresh_at : (i : ℕ) (xs : List Inclusion) → AllByRecursion Fresh xs → (get_or xs i no_inclusion).struck ≡ false
 fresh_at i [] a = refl
 fresh_at zero (x ∷ xs) a = a.0
 fresh_at (suc i) (x ∷ xs) a = fresh_at i xs a.1
 
-fresh_behind : (i : ℕ) (bs xs : List Inclusion) → All Fresh xs → (get_or (bs ++ xs) i no_inclusion).struck ≡ (get_or bs i no_inclusion).struck
+fresh_behind : (i : ℕ) (bs xs : List Inclusion) → AllByRecursion Fresh xs → (get_or (bs ++ xs) i no_inclusion).struck ≡ (get_or bs i no_inclusion).struck
 fresh_behind i [] xs a = fresh_at i xs a
 fresh_behind zero (b ∷ bs) xs a = refl
 fresh_behind (suc i) (b ∷ bs) xs a = fresh_behind i bs xs a
 
-all_fresh : (es : List Entry) → All Fresh (gather inclusion_of es)
+all_fresh : (es : List Entry) → AllByRecursion Fresh (gather inclusion_of es)
 all_fresh [] = tt
 all_fresh (a_heading n ∷ es) = all_fresh es
 all_fresh (a_role n ∷ es) = all_fresh es

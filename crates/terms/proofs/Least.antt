@@ -1,6 +1,6 @@
 -- An answer by a table tells its least ground, or that there is none.
 use Rattle.std.proofs.Common.{◌≡◌, ℕ, ◌-◌, ◌<◌, ◌≤◌, ◌⊎◌, length, get_or, take, Ok, Err, Result, sym, refl, ap, ◌∙◌, subst, inl, inr, arith, length-take-le, get_or-take}
-use Rattle.std.specs.List.{AllByRecursion as All}
+use Rattle.std.specs.List.{AllByRecursion}
 use Rattle.std.proofs.ByRecursion.{All-get_or}
 use Rattle.std.proofs.lemmas.Bool.{cases_order}
 use Rattle.terms.specs.declared.refusal.Refusal.{Refusal}
@@ -34,7 +34,7 @@ at_most e = go (cases_order (number e) 0)
     go (inr (inr h)) = (at e (omega arith)).1
 
 module _ (Ground : Refusal → Type 0) where
-  under : (n : ℕ) → n ≤ 13 → All (λ f. ¬ Ground f) (take n numbered) → (f : Refusal) → 1 ≤ number f → number f ≤ n → ¬ Ground f
+  under : (n : ℕ) → n ≤ 13 → AllByRecursion (λ f. ¬ Ground f) (take n numbered) → (f : Refusal) → 1 ≤ number f → number f ≤ n → ¬ Ground f
   under n top all f some h =
       let a = at f some in
       let long : length (take n numbered) ≡ n = length-take-le n numbered top in
@@ -42,10 +42,10 @@ module _ (Ground : Refusal → Type 0) where
       (All-get_or (λ x. ¬ Ground x) (take n numbered) (number f - 1) Fineness (omega arith) all)
 
   -- an accepted call has none of the numbered grounds
-  pub free_of : All (λ f. ¬ Ground f) numbered → (f : Refusal) → 1 ≤ number f → ¬ Ground f
+  pub free_of : AllByRecursion (λ f. ¬ Ground f) numbered → (f : Refusal) → 1 ≤ number f → ¬ Ground f
   free_of all f some = under 13 (omega arith) all f some (at_most f)
 
-  pub least_of : (e : Refusal) → All (λ f. ¬ Ground f) (take (number e - 1) numbered) → (f : Refusal) → 1 ≤ number f → number f < number e → ¬ Ground f
+  pub least_of : (e : Refusal) → AllByRecursion (λ f. ¬ Ground f) (take (number e - 1) numbered) → (f : Refusal) → 1 ≤ number f → number f < number e → ¬ Ground f
   least_of e all f some h = under (number e - 1) (omega (arith, at_most e)) all f some (omega arith)
 
 same_number : (e f : Refusal) → 1 ≤ number e → number e ≡ number f → e ≡ f

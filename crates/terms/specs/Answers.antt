@@ -1,14 +1,14 @@
 -- What a table of grounds makes of a call: refused with the least ground, accepted where there is none.
 use Rattle.std.specs.Prelude.{◌≡◌, ◌-◌, ◌<◌, ◌≤◌, ◌↔◌, take, Ok, Err, Result}
-use Rattle.std.specs.List.{AllByRecursion as All}
+use Rattle.std.specs.List.{AllByRecursion}
 use Rattle.terms.specs.declared.refusal.Refusal.{Refusal}
 use Rattle.terms.specs.Refusals.{number, numbered}
 
 -- `Ground e` says that the call has the ground e. It is accepted: none of the numbered grounds applies. It is refused with e: e applies, and none of a lower number does.
 -- (`Ground NoMemory` says that the call wants memory, and so may find none.)
 abbrev pub Answered : {X : Type 0} → (Refusal → Type 0) → Result X Refusal → Type 0
-Answered Ground (Ok x) = All (λ e. ¬ Ground e) numbered
-Answered Ground (Err e) = Ground e × All (λ f. ¬ Ground f) (take (number e - 1) numbered)
+Answered Ground (Ok x) = AllByRecursion (λ e. ¬ Ground e) numbered
+Answered Ground (Err e) = Ground e × AllByRecursion (λ f. ¬ Ground f) (take (number e - 1) numbered)
 
 -- the ground of the lowest number
 pub record Least (Ground : Refusal → Type 0) (e : Refusal) : Type 0 where
