@@ -83,7 +83,7 @@ static HELD: Held = Held {
 
 fn check_replay(rt: &impl Abort, heap: Global, desk: &mut Desk) -> Result<(), Fail> {
     let replies = replay(heap, &mut desk.book, &mut desk.question, &CALLS)?;
-    assert_eq!(rt; replies.as_slice(), &REPLIES);
+    assert_eq!(rt; replies.as_slice(), REPLIES.as_slice());
     check_held(rt, desk, &HELD);
     Ok(())
 }
