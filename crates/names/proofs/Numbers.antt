@@ -23,7 +23,7 @@ abbrev pub Kept : List Name → List NameRecord → Type 0
 Kept names records = Climbing record_order (take (length names) records) × Numbered names (take (length names) records) × Listed names (take (length names) records)
 
 pub kept_none : (names : List Name) (records : List NameRecord) → names ≡ [] → Kept names records
-kept_none names records e = subst (λ ns. Kept ns records) (sym e) (tt, (λ j d h. absurd (omega arith)), (λ k d h. absurd (omega arith)))
+kept_none names records e = subst (λ ns. Kept ns records) (sym e) (climbing_from_ascending record_order [] (λ i j d l m. absurd (omega arith)), (λ j d h. absurd (omega arith)), (λ k d h. absurd (omega arith)))
 
 -- what holds of each element holds of each once one more is put in
 each_inserted : {X : Type 0} (P : X → Type 0) (ys : List X) (i : ℕ) (x d : X) → i ≤ length ys → ((j : ℕ) → j < length ys → P (get_or ys j d)) → P x

@@ -1,5 +1,6 @@
 // Names by number, and the same names in order.
 ghost use Rattle.std.specs.Prelude.{◌≡◌, ℕ, ◌≤◌, length, take, vec_capacity};
+ghost use Rattle.std.specs.List.Sorted.{IsStrictlySortedBy-prop};
 ghost use Rattle.row.specs.Order.{Climbing};
 ghost use Rattle.names.specs.Order.{record_order};
 ghost use Rattle.names.specs.Numbered.{Numbered, Listed};
@@ -17,7 +18,7 @@ pub struct NameList<const MOST: usize> {
     ghost whole: { length records.items ≡ MOST },
     ghost few: { length names.items ≤ MOST },
     ghost room: { MOST ≤ vec_capacity names },
-    ghost up: { Climbing record_order (take (length names.items) records.items) },
+    ghost up: { Climbing record_order (take (length names.items) records.items) } by { IsStrictlySortedBy-prop record_order (take (length names.items) records.items) },
     ghost numbered: { Numbered names.items (take (length names.items) records.items) },
     ghost listed: { Listed names.items (take (length names.items) records.items) },
 }

@@ -1,51 +1,27 @@
 -- What the laws of an order give of lists. Assumes nothing.
-use Rattle.std.proofs.Common.{◌≡◌, ℕ, Bool, true, false, ◌&&◌, T, zero, suc, ◌+◌, ◌-◌, ◌<◌, ◌≤◌, ◌⊎◌, List, [], ◌∷◌, ◌++◌, length, get_or, Ordering, Less, Equal, Greater, sym, refl, ap, ◌∙◌, subst, inl, inr, true≢false, arith}
+use Rattle.std.proofs.Common.{◌≡◌, ℕ, zero, suc, ◌+◌, ◌-◌, ◌<◌, ◌≤◌, ◌⊎◌, List, [], ◌∷◌, ◌++◌, length, get_or, Ordering, Less, Equal, Greater, sym, refl, ap, ◌∙◌, subst, inl, inr, true≢false, arith}
 use Rattle.std.specs.Ordering.{ordering_reverse, is_lt, is_gt}
 use Rattle.std.specs.List.{insert, AllWithin, HoldsAt}
+use Rattle.std.specs.List.Sorted.{IsStrictlySortedBy}
 use Rattle.std.proofs.lemmas.List.Edits.{length-insert, get_or-insert_below, get_or-insert_at, get_or-insert_above}
+use Rattle.std.proofs.ByRecursion.{All-from_get_or}
+use Rattle.std.proofs.lemmas.Map.Keys.{Less-from_sorted}
 use Rattle.std.proofs.lemmas.List.{take_all, drop_all}
 use Rattle.std.proofs.lemmas.Bool.{cases_lt, cases_order}
-use Rattle.row.specs.Order.{Ascending, is_below_all, Climbing, Found, Missing, Absent, LastBelow, pick, put}
+use Rattle.row.specs.Order.{Ascending, Climbing, Found, Missing, Absent, LastBelow, pick, put}
 
 -- ---- Ascending in the form of a ghost field
 
-both : (a b : Bool) → T a → T b → T (a && b)
-both true b s t = t
-both false b s t = absurd s
-
-first : (a b : Bool) → T (a && b) → T a
-first true b h = tt
-first false b h = absurd h
-
-second : (a b : Bool) → T (a && b) → T b
-second true b h = h
-second false b h = absurd h
-
--- a comparison that answers less
-lt_is_less : (a : Ordering) → T (is_lt a) → a ≡ Less
-lt_is_less Less h = refl
-lt_is_less Equal h = absurd h
-lt_is_less Greater h = absurd h
-
-below_all_at : {X : Type 0} (cmp : X → X → Ordering) (x : X) (xs : List X) → T (is_below_all cmp x xs) → (j : ℕ) (d : X) → j < length xs → cmp x (get_or xs j d) ≡ Less
-below_all_at cmp x [] h j d m = absurd (omega arith)
-below_all_at cmp x (y ∷ ys) h zero d m = lt_is_less _ (first _ _ h)
-below_all_at cmp x (y ∷ ys) h (suc j) d m = below_all_at cmp x ys (second _ _ h) j d (omega arith)
-
-all_below : {X : Type 0} (cmp : X → X → Ordering) (x : X) (xs : List X) → ((j : ℕ) (d : X) → j < length xs → cmp x (get_or xs j d) ≡ Less) → T (is_below_all cmp x xs)
-all_below cmp x [] h = tt
-all_below cmp x (y ∷ ys) h = both _ _ (subst (λ (a : Ordering). T (is_lt a)) (sym (h 0 y (omega arith))) tt) (all_below cmp x ys (λ j d m. h (suc j) d (omega arith)))
-
 pub ascending_from_climbing : {X : Type 0} (cmp : X → X → Ordering) (xs : List X) → Climbing cmp xs → Ascending cmp xs
-ascending_from_climbing cmp [] h i j d l m = absurd (omega arith)
-ascending_from_climbing cmp (x ∷ xs) h zero zero d l m = absurd (omega arith)
-ascending_from_climbing cmp (x ∷ xs) h zero (suc j) d l m = below_all_at cmp x xs (first _ _ h) j d (omega arith)
-ascending_from_climbing cmp (x ∷ xs) h (suc i) zero d l m = absurd (omega arith)
-ascending_from_climbing cmp (x ∷ xs) h (suc i) (suc j) d l m = ascending_from_climbing cmp xs (second _ _ h) i j d (omega arith) (omega arith)
+ascending_from_climbing cmp xs h i j d l m = Less-from_sorted cmp xs i j d h l m
 
 pub climbing_from_ascending : {X : Type 0} (cmp : X → X → Ordering) (xs : List X) → Ascending cmp xs → Climbing cmp xs
+unfolding IsStrictlySortedBy
 climbing_from_ascending cmp [] up = tt
-climbing_from_ascending cmp (x ∷ xs) up = both _ _ (all_below cmp x xs (λ j d m. up 0 (suc j) d (omega arith) (omega arith))) (climbing_from_ascending cmp xs (λ i j d l m. up (suc i) (suc j) d (omega arith) (omega arith)))
+climbing_from_ascending cmp (x ∷ xs) up = (
+  All-from_get_or (λ y. cmp x y ≡ Less) xs x (λ i h. up 0 (suc i) x (omega arith) (omega arith)),
+  climbing_from_ascending cmp xs (λ i j d l m. up (suc i) (suc j) d (omega arith) (omega arith)),
+)
 
 -- ---- the laws
 

@@ -1,27 +1,17 @@
 -- Lists in the order of a comparison `cmp`: strictly ascending, and where an element x stands in one. Assumes nothing.
-use Rattle.std.specs.Prelude.{◌≡◌, ℕ, Bool, true, ◌&&◌, ◌+◌, ◌-◌, ◌<◌, ◌≤◌, T, List, [], ◌∷◌, length, ◌≢◌, slice_index_or}
+use Rattle.std.specs.Prelude.{◌≡◌, ℕ, ◌+◌, ◌-◌, ◌<◌, ◌≤◌, List, [], ◌∷◌, length, ◌≢◌, slice_index_or}
 use Rattle.std.specs.declared.cmp.Ordering.TheVariants.{Less, Equal, Greater}
 use Rattle.std.specs.declared.cmp.Ordering.{Ordering}
-use Rattle.std.specs.Ordering.{is_lt}
+use Rattle.std.specs.List.Sorted.{IsStrictlySortedBy}
 use Rattle.std.specs.List.{AllWithin, HoldsAt}
 
 -- xs is strictly ascending (a sorted array without equal elements): each element is below every later one
 abbrev pub Ascending : {X : Type 0} → (X → X → Ordering) → List X → Type 0
 Ascending {X} cmp xs = (i j : ℕ) (d : X) → i < j → j < length xs → cmp (slice_index_or xs i d) (slice_index_or xs j d) ≡ Less
 
--- whether x is below each element of xs
-abbrev pub is_below_all : {X : Type 0} → (X → X → Ordering) → X → List X → Bool
-is_below_all cmp x [] = true
-is_below_all cmp x (y ∷ ys) = is_lt (cmp x y) && is_below_all cmp x ys
-
--- whether each element is below every later one
-abbrev pub is_strictly_sorted_by : {X : Type 0} → (X → X → Ordering) → List X → Bool
-is_strictly_sorted_by cmp [] = true
-is_strictly_sorted_by cmp (x ∷ xs) = is_below_all cmp x xs && is_strictly_sorted_by cmp xs
-
 -- the same as Ascending, in the form that a struct's ghost field takes, since it has one proof at most
 abbrev pub Climbing : {X : Type 0} → (X → X → Ordering) → List X → Type 0
-Climbing cmp xs = T (is_strictly_sorted_by cmp xs)
+Climbing cmp xs = IsStrictlySortedBy cmp xs
 
 -- x equals the element at i and no other: those before it are below x, and those after it above
 pub record Found {X : Type 0} (cmp : X → X → Ordering) (x : X) (xs : List X) (i : ℕ) : Type 0 where
