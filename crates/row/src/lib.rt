@@ -1,15 +1,13 @@
-// Rows of elements in strict order (sorted arrays without equal elements), over slices that are lent.
+// Rows of elements in strict order (sorted arrays without equal elements), over slices that are lent. The order is that of the element type's `Ord`.
 #![tactic(auto)]
 
 ghost use Rattle.std.specs.Prelude.{◌≤◌, length};
 
 mod lookup;
-mod order;
 mod placing;
 mod reading;
 
 pub use lookup::search;
-pub use order::Ordered;
 
 // Why an element was not placed.
 #[derive(Clone, Copy, PartialEq, Eq, Debug)]
@@ -23,7 +21,7 @@ pub enum Unplaced {
 }
 
 // An ordered row: the first len slots of a lent slice, each below the next.
-// That they are in order is the owner's to keep, since the type knows no order of T.
+// That they are in order is the owner's to keep, since the type knows no order of T. The count stands beside the slice, since the slots are lent and take no memory here.
 #[derive(Drop)]
 pub struct Row<'a, T> {
     slots: &'a mut [T],

@@ -2,45 +2,25 @@
 ghost use Rattle.std.specs.Prelude.{◌≡◌, ℕ, ◌+◌, ◌≤◌, length, take, drop, is_ok, if◌then◌else◌};
 ghost use Rattle.row.specs.Order.{Ascending};
 ghost use Rattle.row.specs.Placing.{InsertOutcome, InsertSorted};
-ghost use Rattle.std.specs.Ordering.{nat_cmp};
-ghost use Rattle.std.specs.Cmp.{nat_cmp_total};
-ghost use Rattle.row.specs.Numbers.{nat_cmp_agrees};
 
-use crate::{Ordered, Row, Unplaced, search};
-use std::cmp::Ordering;
+use crate::{Row, Unplaced, search};
 
 // In the order of their numbers, whatever their marks.
-#[derive(Clone, Copy, PartialEq, Eq, Debug)]
+#[derive(Clone, Copy, Debug)]
+#[derive_where(PartialEq, Eq, PartialOrd, Ord)]
 struct Card {
     number: u32,
+    #[derive_where(skip(EqHashOrd))]
     mark: u8,
 }
 
-impl Ordered for Card {
-    ghost Sort = { ℕ };
-
-    ghost key = { λ x. x.number };
-
-    ghost cmp = { λ x y. nat_cmp x.number y.number };
-
-    ghost total = { λ x y. nat_cmp_total.antisymm x.number y.number };
-
-    ghost transitive = { λ x y z. nat_cmp_total.trans x.number y.number z.number };
-
-    ghost agrees = { λ x y. nat_cmp_agrees x.number y.number };
-
-    fn compare(&self, other: &Card) -> Ordering {
-        self.number.cmp(&other.number)
-    }
-}
-
 // What an owner of the slots learns of them from a row that is dropped here.
-fn place<T: Ordered>(slots: &mut [T], len: usize, x: T) -> Result<usize, Unplaced>
+fn place<T: Ord + Copy>(slots: &mut [T], len: usize, x: T) -> Result<usize, Unplaced>
     requires within { len ≤ length slots.old }
-    requires ascending { Ascending T.Ordered.cmp (take len slots.old) }
-    ensures outcome { InsertOutcome T.Ordered.cmp x (take len slots.old) (length slots.old) (take (if is_ok result then len + 1 else len) slots.new) result }
-    ensures sorted { InsertSorted T.Ordered.cmp x (take len slots.old) (take (if is_ok result then len + 1 else len) slots.new) result }
-    ensures ascending { Ascending T.Ordered.cmp (take (if is_ok result then len + 1 else len) slots.new) }
+    requires ascending { Ascending T.cmp (take len slots.old) }
+    ensures outcome { InsertOutcome T.cmp x (take len slots.old) (length slots.old) (take (if is_ok result then len + 1 else len) slots.new) result }
+    ensures sorted { InsertSorted T.cmp x (take len slots.old) (take (if is_ok result then len + 1 else len) slots.new) result }
+    ensures ascending { Ascending T.cmp (take (if is_ok result then len + 1 else len) slots.new) }
     ensures rest { drop (if is_ok result then len + 1 else len) slots.new ≡ drop (if is_ok result then len + 1 else len) slots.old }
 {
     let mut row = Row::over(slots, len);
@@ -64,6 +44,7 @@ fn inserts_in_order(rt: HostRuntime) {
     );
     assert_eq!(rt; row.len(), 3);
     assert_eq!(rt; row.get(1), Some(Card { number: 8, mark: 3 }));
+    assert_eq!(rt; row.get(1).map(|card| card.mark), Some(3));
     assert_eq!(rt; row.get(3), None);
     assert_eq!(rt; row.search(&Card { number: 6, mark: 0 }), Err(0));
     assert_eq!(rt; search(row.as_slice(), &Card { number: 9, mark: 0 }), Ok(2));

@@ -3,4 +3,4 @@ pub mod Answers
 pub mod Among
 pub mod Words
 pub mod Lines
-pub mod LineOrderLaws
+pub mod Showing

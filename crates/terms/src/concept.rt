@@ -18,7 +18,7 @@ pub enum Concept {
 }
 
 // C in D (a graded concept inclusion): the degree of `lower` never exceeds that of `upper`, unless it is struck.
-#[derive(Clone, Copy, PartialEq, Eq, Debug)]
+#[derive(Clone, Copy, PartialEq, Eq, Default, Debug)]
 pub struct Inclusion {
     pub lower: usize,
     pub upper: usize,

@@ -1,9 +1,10 @@
 // What an entry of a sheet says besides its label.
 
 // The rule by which an entry is closed, or L in a standing sheet.
-#[derive(Clone, Copy, PartialEq, Eq, Debug)]
+#[derive(Clone, Copy, PartialEq, Eq, Default, Debug)]
 pub enum Letter {
     // The label clashes.
+    #[default]
     Z,
     // By a line on 'not c'.
     N,
@@ -20,7 +21,7 @@ pub enum Letter {
 }
 
 // The letter, the place of a line in the label, the children, the inclusion and the step. What a letter does not use is 0.
-#[derive(Clone, Copy, PartialEq, Eq, Debug)]
+#[derive(Clone, Copy, PartialEq, Eq, Default, Debug)]
 pub struct Head {
     pub letter: Letter,
     pub place: usize,

@@ -3,9 +3,9 @@
 
 pub mod concept;
 pub mod entry;
+pub mod laws;
 pub mod line;
-pub mod order;
 pub mod question;
 pub mod refusal;
-pub mod same;
+pub mod showing;
 pub mod words;

@@ -1,8 +1,9 @@
 // The lines of a question.
 
-#[derive(Clone, Copy, PartialEq, Eq, Debug)]
+#[derive(Clone, Copy, PartialEq, Eq, Default, Debug)]
 pub enum Comparison {
     // >=
+    #[default]
     NotBelow,
     // >
     Above,
@@ -13,7 +14,7 @@ pub enum Comparison {
 }
 
 // A line of a question (an assertion about the piece that is asked for): how the degree of a concept compares with a degree of the book.
-#[derive(Clone, Copy, PartialEq, Eq, Debug)]
+#[derive(Clone, Copy, PartialEq, Eq, Default, Debug)]
 pub struct QuestionLine {
     pub concept: usize,
     pub comparison: Comparison,

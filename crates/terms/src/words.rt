@@ -1,31 +1,21 @@
 // Refusals by number and in words, and without a place.
-ghost use Rattle.std.specs.Prelude.{◌≡◌};
+ghost use Rattle.std.specs.Prelude.{◌≡◌, Some};
+ghost use Rattle.terms.specs.declared.refusal.Refusal.TheVariants.{NoMemory};
 ghost use Rattle.terms.specs.Refusals.{number, unplaced};
+ghost use Rattle.terms.specs.Showing.{refused_text};
 ghost use Rattle.terms.specs.Words.{words};
 
 use crate::refusal::{Refusal, Refused};
+use std::alloc::AllocError;
+use std::error::Error;
+use std::fmt;
 
 impl Refusal {
     // The refusal's number, or 0 for want of memory.
     pub fn number(self) -> u8
         ensures { result ≡ number self }
     {
-        match self {
-            Refusal::Fineness => 1,
-            Refusal::Full => 2,
-            Refusal::Missing => 3,
-            Refusal::TooHigh => 4,
-            Refusal::BadName => 5,
-            Refusal::Already => 6,
-            Refusal::NoLines => 7,
-            Refusal::NoRoom => 8,
-            Refusal::OutOfOrder => 9,
-            Refusal::BrokenRule => 10,
-            Refusal::BadRoot => 11,
-            Refusal::Unfit => 12,
-            Refusal::BadText => 13,
-            Refusal::NoMemory => 0,
-        }
+        self as u8
     }
 
     // What is wrong, and what to mend.
@@ -65,3 +55,36 @@ impl From<Refusal> for Refused {
         Refused { refusal, place: 0 }
     }
 }
+
+impl From<AllocError> for Refused {
+    ghost from_gives = { λ _ r. r ≡ unplaced NoMemory };
+
+    fn from(_: AllocError) -> Refused {
+        Refusal::NoMemory.into()
+    }
+}
+
+impl fmt::Display for Refusal {
+    ghost output = { λ e. Some (words e) };
+
+    fn fmt<W: fmt::Write>(&self, f: &mut fmt::Formatter<W>) -> fmt::Result {
+        f.write_str(self.words())
+    }
+}
+
+impl fmt::Display for Refused {
+    ghost output = { λ x. Some (refused_text x) };
+
+    fn fmt<W: fmt::Write>(&self, f: &mut fmt::Formatter<W>) -> fmt::Result {
+        let number = self.refusal.number();
+        write!(
+            f,
+            "refused with {number} at {}: {}",
+            self.place, self.refusal
+        )
+    }
+}
+
+impl Error for Refusal {}
+
+impl Error for Refused {}

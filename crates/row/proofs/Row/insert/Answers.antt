@@ -1,35 +1,23 @@
-use Rattle.std.proofs.Common.{◌≡◌, List, length, sym, refl, ◌∙◌, subst, arith, length-take-le}
+use Rattle.std.proofs.Common.{List, sym, ◌∙◌, subst}
 use Rattle.row.specs.Rows.{items}
 use Rattle.row.specs.Order.{Ascending}
-use Rattle.row.proofs.Orders.{order_from_laws, absent_from_missing, put_missing, put_found, ascending_inserted}
+use Rattle.row.proofs.Orders.{absent_from_missing, put_missing, put_found, ascending_inserted}
 use Rattle.row.proofs.Row.insert.Goals as goal
 
-pub returns-in-Ok : goal.returns-in-Ok
-returns-in-Ok g c =
-    let met = g.met.T.Ordered in
-    let o = order_from_laws g.T.Ordered.cmp g.T.Ordered.key met.total met.transitive met.agrees in
-    let en = c.in-Ok.ensures in
-    record {
-      outcome = (en.outcome.0, en.outcome.1, refl);
-      sorted = λ up. (en.sorted up, sym (put_found g.T.Ordered.cmp o c.args.x (items c.args.self.now) c.in-Ok.i (en.sorted up)));
-      ascending = λ up. up;
-      kept = record { len = refl; rest = refl; refused = λ _. refl; size = refl };
-      lender = refl;
-    }
+pub returns-in-Ok-clause-sorted : goal.returns-in-Ok-clause-sorted
+returns-in-Ok-clause-sorted g c up =
+    let found = c.in-Ok.ensures.sorted up in
+    (found, sym (put_found g.T.Ord.cmp g.met.T.Ord.total c.args.x (items c.args.self.now) c.in-Ok.i found))
 
-pub returns : goal.returns
-returns g c =
-    let met = g.met.T.Ordered in
-    let cmp = g.T.Ordered.cmp in
-    let o = order_from_laws cmp g.T.Ordered.key met.total met.transitive met.agrees in
+pub returns-clause-sorted : goal.returns-clause-sorted
+returns-clause-sorted g c up =
+    let missing = c.in-Err.ensures.sorted up in
+    let o = g.met.T.Ord.total in
     let xs = items c.args.self.now in
-    let en = c.in-Err.ensures in
-    let put = c.put_at.ensures in
-    let long : length xs ≡ c.args.self.now.len = length-take-le _ _ c.args.self.now.within in
-    record {
-      outcome = (omega arith, en.outcome, put.items);
-      sorted = λ up. (absent_from_missing cmp o c.args.x xs c.in-Err.i (en.sorted up), en.sorted up, put.items ∙ sym (put_missing cmp o c.args.x xs c.in-Err.i (en.sorted up)));
-      ascending = λ up. subst (λ (l : List g.row.T.Denot). Ascending cmp l) (sym put.items) (ascending_inserted cmp o c.args.x xs c.in-Err.i (en.sorted up) up);
-      kept = put.kept;
-      lender = put.lender;
-    }
+    (absent_from_missing g.T.Ord.cmp o c.args.x xs c.in-Err.i missing, missing, c.put_at.ensures.items ∙ sym (put_missing g.T.Ord.cmp o c.args.x xs c.in-Err.i missing))
+
+pub returns-clause-ascending : goal.returns-clause-ascending
+returns-clause-ascending g c up =
+    let cmp = g.T.Ord.cmp in
+    let xs = items c.args.self.now in
+    subst (λ (l : List g.row.T.Denot). Ascending cmp l) (sym c.put_at.ensures.items) (ascending_inserted cmp g.met.T.Ord.total c.args.x xs c.in-Err.i (c.in-Err.ensures.sorted up) up)

@@ -1,21 +1,20 @@
-use Rattle.std.proofs.Common.{refl, ◌∙◌, true≢false, arith}
-use Rattle.std.proofs.lemmas.List.{length-set}
-use Rattle.row.proofs.Lists.{put_items, put_rest}
+use Rattle.std.proofs.Common.{refl, true≢false}
+use Rattle.row.proofs.Lists.{put_items, put_rest, put_size}
 use Rattle.row.proofs.Row.put_at.Goals as goal
 
 pub returns : goal.returns
 returns g c =
     let xs = c.args.self.now.slots.now in
-    let ys = c.loop-k.self.slots.now in
-    let inv = c.loop-k.invariant in
+    let ys = c.rotate_right.new.self in
+    let turned = c.rotate_right.ensures.after in
+    let len = c.args.self.now.len in
     record {
-      items = put_items xs ys c.args.self.now.len c.args.i c.args.x c.requires.place c.requires.room inv.3
-          (λ j d h. inv.4 j d (omega arith)) (λ j d h l. inv.5 j d (omega arith) l);
+      items = put_items xs ys len c.args.i c.args.x c.requires.place c.requires.room turned;
       kept = record {
         len = refl;
-        rest = put_rest xs ys c.args.self.now.len c.args.i c.args.x c.requires.place c.requires.room inv.3 inv.6;
+        rest = put_rest xs ys len c.args.i c.args.x c.requires.place c.requires.room turned;
         refused = λ e. absurd (true≢false e);
-        size = length-set ys c.args.i c.args.x ∙ inv.3;
+        size = put_size xs ys len c.args.i c.args.x c.requires.place c.requires.room turned;
       };
-      lender = inv.2;
+      lender = refl;
     }
