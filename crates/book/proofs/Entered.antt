@@ -1,14 +1,13 @@
 -- What a list that grew by one keeps.
-use Rattle.std.proofs.Common.{◌≡◌, ℕ, ◌<◌, ◌≤◌, Bool, true, false, cond, ◌⊎◌, List, [], ◌∷◌, ◌++◌, length, get_or, sym, refl, ap, ◌∙◌, subst, inl, inr, arith}
+use Rattle.std.proofs.Common.{◌≡◌, ℕ, ◌<◌, ◌≤◌, ◌⊎◌, List, [], ◌∷◌, ◌++◌, length, get_or, sym, refl, ◌∙◌, subst, inl, inr, arith}
 use lib.Seq.{get_or-append_seam}
 use Rattle.std.specs.List.{ContainsAt as Has}
 use Rattle.std.proofs.lemmas.List.{length_push, get_or_append_left}
 use Rattle.std.proofs.ByRecursion.{has_get_or}
 use Rattle.std.proofs.lemmas.Bool.{cases_lt}
 use Rattle.terms.specs.declared.concept.Concept.{Concept}
-use Rattle.terms.specs.declared.concept.Concept.TheVariants.{Heading, Constant, Not, Less, Lesser, Exists}
 use Rattle.terms.specs.Among.{Among}
-use Rattle.book.specs.Citing.{no_concept, CitesMissing, Founded, Apart}
+use Rattle.book.specs.Citing.{no_concept, Apart}
 
 -- what holds of each element and its number holds of one more
 pub each_push : {X : Type 0} (Q : ℕ → X → Type 0) (xs : List X) (x d : X) → ((k : ℕ) → k < length xs → Q k (get_or xs k d)) → Q (length xs) x
@@ -34,22 +33,3 @@ apart_push xs c apart fresh j k l h = each_push (λ (n : ℕ) (x : Concept). n �
 
     new : length xs ≡ k → get_or (xs ++ c ∷ []) j no_concept ≡ c → ⊥
     new e f = fresh (subst (Has xs) (sym (below (omega arith)) ∙ f) (has_get_or xs j no_concept (omega arith)))
-
--- ---- more names leave concepts founded
-
-missing_fewer : (h m r s k : ℕ) (c : Concept) → h ≤ m → r ≤ s → CitesMissing m s k c → CitesMissing h r k c
-missing_fewer h m r s k (Heading p) a b d = omega arith
-missing_fewer h m r s k (Constant p) a b d = d
-missing_fewer h m r s k (Not p) a b d = d
-missing_fewer h m r s k (Less p q) a b d = d
-missing_fewer h m r s k (Lesser p q) a b d = d
-missing_fewer h m r s k (Exists p q) a b (inl d) = inl (omega arith)
-missing_fewer h m r s k (Exists p q) a b (inr d) = inr d
-
-pub founded_more : (h m r s : ℕ) (cs : List Concept) → h ≤ m → r ≤ s → Founded h r cs → Founded m s cs
-founded_more h m r s cs a b old k l d = old k l (missing_fewer h m r s k (get_or cs k no_concept) a b d)
-
--- a list with one more, or as it was, is no shorter
-pub no_shorter : {X : Type 0} (b : Bool) (ys xs : List X) (x : X) → ys ≡ cond b (xs ++ x ∷ []) xs → length xs ≤ length ys
-no_shorter true ys xs x e = omega (arith, ap length e, length_push xs x)
-no_shorter false ys xs x e = omega (arith, ap length e)

@@ -6,7 +6,7 @@ use Rattle.book.specs.States.{BookModel}
 
 abbrev pub model : Book → BookModel
 model b = record {
-  fineness = b.fineness;
+  fineness = b.fineness.steps;
   headings = texts b.headings;
   roles = texts b.roles;
   concepts = vec_items b.concepts;

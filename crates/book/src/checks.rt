@@ -6,15 +6,13 @@ ghost use Rattle.book.specs.Citing.{CitesMissing, CitesAbove};
 
 use crate::Book;
 use terms::concept::Concept;
-use terms::same::has;
 
 // Whether a concept cites a degree above the fineness.
 pub fn cites_above(fineness: u32, concept: Concept) -> bool
     ensures { Decides result (CitesAbove fineness concept) }
 {
     match concept {
-        Concept::Constant(degree) => degree > fineness,
-        Concept::Less(_, degree) => degree > fineness,
+        Concept::Constant(degree) | Concept::Less(_, degree) => degree > fineness,
         _ => false,
     }
 }
@@ -37,6 +35,6 @@ impl Book {
     pub(crate) fn has_concept(&self, concept: Concept) -> bool
         ensures { Decides result (Among self.now.concepts.items concept) }
     {
-        has(self.concepts.as_slice(), concept)
+        self.concepts.contains(&concept)
     }
 }

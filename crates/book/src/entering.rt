@@ -6,8 +6,9 @@ ghost use Rattle.book.specs.Grounds.{Ground};
 ghost use Rattle.book.specs.Steps.{Step, alone, numberless};
 ghost use Rattle.book.specs.Models.{model};
 
-use crate::Book;
 use crate::checks::cites_above;
+use crate::table::MOST_INCLUSIONS;
+use crate::{Book, MOST_CONCEPTS};
 use terms::concept::{Concept, Inclusion};
 use terms::refusal::{Refusal, Refused};
 
@@ -15,13 +16,13 @@ impl Book {
     fn may_enter_concept(&self, concept: Concept) -> Result<(), Refusal>
         ensures { Answered (Ground (alone (model self.now)) (enter (a_concept concept))) result }
     {
-        if self.concepts.len() >= 128 {
+        if self.concepts.len() >= MOST_CONCEPTS {
             return Err(Refusal::Full);
         }
         if self.cites_missing(concept) {
             return Err(Refusal::Missing);
         }
-        if cites_above(self.fineness, concept) {
+        if cites_above(self.fineness(), concept) {
             return Err(Refusal::TooHigh);
         }
         if self.has_concept(concept) {
@@ -44,7 +45,7 @@ impl Book {
         ensures { Answered (Ground (alone (model self.now)) (enter (an_inclusion lower upper))) result }
     {
         let count = self.concepts.len();
-        if self.inclusions.records.len() >= 64 {
+        if self.inclusions().len() >= MOST_INCLUSIONS {
             return Err(Refusal::Full);
         }
         if lower >= count || upper >= count {
@@ -58,7 +59,7 @@ impl Book {
         ensures { Step (alone (model self.old)) (enter (an_inclusion lower upper)) result (alone (model self.new)) }
     {
         self.may_enter_inclusion(lower, upper)?;
-        let number = self.inclusions.records.len();
+        let number = self.inclusions().len();
         self.inclusions.add(Inclusion {
             lower,
             upper,
@@ -70,10 +71,8 @@ impl Book {
     fn may_strike(&self, number: usize) -> Result<(), Refusal>
         ensures { Answered (Ground (alone (model self.now)) (strike number)) result }
     {
-        if number >= self.inclusions.records.len() {
-            return Err(Refusal::Missing);
-        }
-        if self.inclusions.records[number].struck {
+        let inclusion = self.inclusions().get(number).ok_or(Refusal::Missing)?;
+        if inclusion.struck {
             return Err(Refusal::Already);
         }
         Ok(())

@@ -5,11 +5,14 @@ ghost use Rattle.std.specs.Prelude.{ℕ, ◌≤◌, length, vec_capacity};
 ghost use Rattle.names.specs.Texts.{texts};
 ghost use Rattle.book.specs.Citing.{Founded, Graded, Apart, Joined};
 
+use crate::fineness::Fineness;
+use crate::table::InclusionTable;
 use names::NameList;
-use terms::concept::{Concept, Inclusion};
+use terms::concept::Concept;
 
 mod checks;
 mod entering;
+mod fineness;
 mod laws;
 mod making;
 mod naming;
@@ -18,28 +21,24 @@ mod table;
 
 pub use laws::every_book_is_sound;
 
-// The inclusions of a book by number, with their struck marks.
-#[derive(Drop)]
-struct InclusionTable {
-    records: Vec<Inclusion>,
-}
+pub const MOST_HEADINGS: usize = 64;
+
+pub const MOST_ROLES: usize = 16;
+
+const MOST_CONCEPTS: usize = 128;
 
 // A rule book (a TBox): its fineness, and headings, roles, concepts and inclusions, each numbered from 0 as entered. All room is reserved when it is made.
 #[derive(Drop)]
 pub struct Book {
-    fineness: u32,
-    headings: NameList<64>,
-    roles: NameList<16>,
+    fineness: Fineness,
+    headings: NameList<MOST_HEADINGS>,
+    roles: NameList<MOST_ROLES>,
     concepts: Vec<Concept>,
     inclusions: InclusionTable,
-    ghost some: { 1 ≤ fineness },
-    ghost fine: { fineness ≤ 1000 },
     ghost few: { length concepts.items ≤ 128 },
     ghost room: { 128 ≤ vec_capacity concepts },
     ghost founded: { Founded (length (texts headings)) (length (texts roles)) concepts.items },
-    ghost graded: { Graded fineness concepts.items },
+    ghost graded: { Graded fineness.steps concepts.items },
     ghost apart: { Apart concepts.items },
-    ghost rules: { length inclusions.records.items ≤ 64 },
-    ghost space: { 64 ≤ vec_capacity inclusions.records },
     ghost joined: { Joined (length concepts.items) inclusions.records.items },
 }

@@ -11,15 +11,13 @@ impl Book {
     pub fn enter_heading(&mut self, name: &str) -> Result<usize, Refused>
         ensures { Step (alone (model self.old)) (enter (a_heading name.now)) result (alone (model self.new)) }
     {
-        let number = self.headings.enter(name)?;
-        Ok(number)
+        Ok(self.headings.enter(name)?)
     }
 
-    // Enters a role; returns its number.
+    // Enters a role; returns its number. (A call beside the other: each has a list of its own type, and a ground of its own.)
     pub fn enter_role(&mut self, name: &str) -> Result<usize, Refused>
         ensures { Step (alone (model self.old)) (enter (a_role name.now)) result (alone (model self.new)) }
     {
-        let number = self.roles.enter(name)?;
-        Ok(number)
+        Ok(self.roles.enter(name)?)
     }
 }

@@ -3,7 +3,7 @@ ghost use Rattle.std.specs.Prelude.{◌≡◌};
 ghost use Rattle.names.specs.Texts.{texts};
 ghost use Rattle.book.specs.Models.{model};
 
-use crate::Book;
+use crate::{Book, MOST_HEADINGS, MOST_ROLES};
 use names::NameList;
 use terms::concept::{Concept, Inclusion};
 
@@ -11,16 +11,16 @@ impl Book {
     pub fn fineness(&self) -> u32
         ensures { result ≡ (model self.now).fineness }
     {
-        self.fineness
+        self.fineness.steps()
     }
 
-    pub fn headings(&self) -> &NameList<64>
+    pub fn headings(&self) -> &NameList<MOST_HEADINGS>
         ensures { texts result.now ≡ (model self.now).headings }
     {
         &self.headings
     }
 
-    pub fn roles(&self) -> &NameList<16>
+    pub fn roles(&self) -> &NameList<MOST_ROLES>
         ensures { texts result.now ≡ (model self.now).roles }
     {
         &self.roles
@@ -37,6 +37,6 @@ impl Book {
     pub fn inclusions(&self) -> &[Inclusion]
         ensures { result.now ≡ (model self.now).inclusions }
     {
-        self.inclusions.records.as_slice()
+        self.inclusions.records()
     }
 }

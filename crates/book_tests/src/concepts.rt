@@ -1,5 +1,5 @@
 // Entering concepts.
-use crate::support::{ALREADY, Case, Held, MISSING, TOO_HIGH, check_cases};
+use crate::support::{ALREADY, Case, EMPTY, Held, MISSING, TOO_HIGH, check_cases};
 use runs::Call;
 use std::test::Fail;
 use terms::concept::Concept;
@@ -36,7 +36,6 @@ static CITING: [Case; 26] = [
 ];
 
 static CITED: Held = Held {
-    fineness: 10,
     headings: &["tithe"],
     roles: &["cites"],
     concepts: &[
@@ -48,8 +47,7 @@ static CITED: Held = Held {
         Concept::Lesser(2, 3),
         Concept::Exists(0, 5),
     ],
-    inclusions: &[],
-    lines: &[],
+    ..EMPTY
 };
 
 #[test]

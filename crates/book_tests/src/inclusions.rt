@@ -1,5 +1,5 @@
 // Entering and striking inclusions.
-use crate::support::{ALREADY, Case, Held, MISSING, check_cases};
+use crate::support::{ALREADY, Case, EMPTY, Held, MISSING, check_cases};
 use runs::Call;
 use std::test::Fail;
 use terms::concept::{Concept, Inclusion};
@@ -16,9 +16,6 @@ static JOINING: [Case; 7] = [
 ];
 
 static JOINED: Held = Held {
-    fineness: 10,
-    headings: &[],
-    roles: &[],
     concepts: &[Concept::Constant(0), Concept::Constant(1)],
     inclusions: &[
         Inclusion {
@@ -32,7 +29,7 @@ static JOINED: Held = Held {
             struck: false,
         },
     ],
-    lines: &[],
+    ..EMPTY
 };
 
 #[test]
@@ -54,9 +51,6 @@ static STRIKING: [Case; 9] = [
 ];
 
 static STRUCK: Held = Held {
-    fineness: 10,
-    headings: &[],
-    roles: &[],
     concepts: &[Concept::Constant(0)],
     inclusions: &[
         Inclusion {
@@ -75,7 +69,7 @@ static STRUCK: Held = Held {
             struck: false,
         },
     ],
-    lines: &[],
+    ..EMPTY
 };
 
 #[test]

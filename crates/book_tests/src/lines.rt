@@ -1,5 +1,5 @@
 // Entering lines in a question, and clearing it.
-use crate::support::{ALREADY, Case, Held, MISSING, TOO_HIGH, check_cases};
+use crate::support::{ALREADY, Case, EMPTY, Held, MISSING, TOO_HIGH, check_cases};
 use runs::Call;
 use std::test::Fail;
 use terms::concept::Concept;
@@ -59,12 +59,9 @@ static ASKING: [Case; 13] = [
 ];
 
 static ASKED: Held = Held {
-    fineness: 10,
-    headings: &[],
-    roles: &[],
     concepts: &[Concept::Constant(0)],
-    inclusions: &[],
     lines: &[TOP, ABOVE, NOT_ABOVE, UNDER],
+    ..EMPTY
 };
 
 #[test]

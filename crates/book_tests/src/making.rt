@@ -1,5 +1,5 @@
 // Making a book, and beginning one anew.
-use crate::support::{Case, FINENESS, Held, check_cases};
+use crate::support::{Case, EMPTY, FINENESS, Held, check_cases};
 use book::Book;
 use runs::Call;
 use std::alloc::Global;
@@ -72,20 +72,13 @@ static BEGINNING: [Case; 6] = [
 
 static BEGUN: Held = Held {
     fineness: 1,
-    headings: &[],
-    roles: &[],
-    concepts: &[],
-    inclusions: &[],
     lines: &[ASKED],
+    ..EMPTY
 };
 
 static BLANK: Held = Held {
     fineness: 1000,
-    headings: &[],
-    roles: &[],
-    concepts: &[],
-    inclusions: &[],
-    lines: &[],
+    ..EMPTY
 };
 
 #[test]

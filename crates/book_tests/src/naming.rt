@@ -1,7 +1,9 @@
 // Entering headings and roles.
-use crate::support::{ALREADY, BAD_NAME, Case, Held, check_cases};
+use crate::support::{ALREADY, BAD_NAME, Case, EMPTY, Held, check_cases};
+use names::Name;
 use runs::Call;
 use std::test::Fail;
+use terms::refusal::Refusal;
 
 static NAMING: [Case; 20] = [
     (Call::EnterHeading(""), Err(BAD_NAME)),
@@ -29,15 +31,24 @@ static NAMING: [Case; 20] = [
 ];
 
 static NAMED: Held = Held {
-    fineness: 10,
     headings: &["abcdefghijkl", "tithe", "Tithe", "-9"],
     roles: &["tithe", "abcdefghijkl", "TITHE"],
-    concepts: &[],
-    inclusions: &[],
-    lines: &[],
+    ..EMPTY
 };
 
 #[test]
 fn names_are_plain_and_differ(rt: HostRuntime) -> Result<(), Fail> {
     check_cases(&rt, rt.alloc(), 10, &NAMING, &NAMED)
+}
+
+#[test]
+fn a_name_is_spelled_and_names_stand_in_order(rt: HostRuntime) -> Result<(), Fail> {
+    let capital: Name = "Tithe".parse()?;
+    let name: Name = "tithe".parse()?;
+    let longer: Name = "tithe-9".parse()?;
+    assert_eq!(rt; name.as_str(), "tithe");
+    assert!(rt; capital < name);
+    assert!(rt; name < longer);
+    assert_eq!(rt; "a b".parse::<Name>(), Err(Refusal::BadName));
+    Ok(())
 }

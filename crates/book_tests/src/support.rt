@@ -55,6 +55,16 @@ pub struct Held {
     pub lines: &'static [QuestionLine],
 }
 
+// A book of fineness 10, and a question, that hold nothing.
+pub const EMPTY: Held = Held {
+    fineness: 10,
+    headings: &[],
+    roles: &[],
+    concepts: &[],
+    inclusions: &[],
+    lines: &[],
+};
+
 // A book and a question.
 #[derive(Drop)]
 pub struct Desk {

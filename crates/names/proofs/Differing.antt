@@ -1,5 +1,5 @@
 -- The names of a list are names, and differ.
-use Rattle.std.proofs.Common.{◌≡◌, ℕ, ◌<◌, ◌≤◌, ◌⊎◌, List, [], ◌∷◌, map, length, get_or, take, vec_items, sym, ap, ◌∙◌, subst, inl, inr, true≢false, arith, length-take-le, get_or-take}
+use Rattle.std.proofs.Common.{◌≡◌, ℕ, ◌<◌, ◌≤◌, ◌⊎◌, List, [], ◌∷◌, map, length, get_or, take, vec_items, sym, ap, ◌∙◌, subst, inl, inr, true≢false, arith}
 use Rattle.std.specs.Ordering.{is_lt}
 use Rattle.std.proofs.lemmas.List.{length-map, get_or-map}
 use Rattle.std.proofs.lemmas.Bool.{cases_order}
@@ -7,22 +7,12 @@ use Rattle.row.specs.Order.{Ascending}
 use Rattle.row.proofs.Orders.{ascending_from_climbing}
 use Rattle.names.specs.declared.name.Name.{Name}
 use Rattle.names.specs.declared.name.NameRecord.{NameRecord}
-use Rattle.names.specs.Spelling.{Odd, HasOdd, NoName}
+use Rattle.names.specs.Spelling.{NoName}
 use Rattle.names.specs.Letters.{letters}
 use Rattle.names.specs.Order.{record_order}
 use Rattle.names.specs.Numbered.{Numbered, Listed}
 use Rattle.names.specs.Kept.{NamesKept, EveryListKeepsNames}
-use Rattle.names.specs.Lexical.{lex_from_same}
-
--- a name is no bytes that make none
-proper_name : (n : Name) → ¬ NoName (letters n)
-unfolding HasOdd
-proper_name n (inl e) = omega (arith, length-take-le n.len n.bytes (omega (arith, n.whole, n.fits)), n.some)
-proper_name n (inr (inl h)) = omega (arith, length-take-le n.len n.bytes (omega (arith, n.whole, n.fits)), n.fits)
-proper_name n (inr (inr h)) =
-    let long : length (letters n) ≡ n.len = length-take-le n.len n.bytes (omega (arith, n.whole, n.fits)) in
-    let l : h.0 < n.len = omega (arith, h.1) in
-    n.plain h.0 l (subst Odd (get_or-take n.len n.bytes h.0 0 l) h.2)
+use Rattle.names.proofs.Lexical.{lex_from_same}
 
 module _ (names : List Name) (row : List NameRecord) (up : Ascending record_order row) (numbered : Numbered names row) (listed : Listed names row) (d : NameRecord) where
   -- the record at a place has the name of its number
@@ -49,7 +39,7 @@ kept_names : (most : ℕ) (names : List Name) (row : List NameRecord) → length
 kept_names most [] row few up numbered listed = record { few = omega arith; proper = λ k h. absurd (omega arith); different = λ j k p h. absurd (omega arith) }
 kept_names most (n ∷ ns) row few up numbered listed = record {
   few = omega (arith, length-map (n ∷ ns) letters);
-  proper = λ k h. subst (λ m. ¬ NoName m) (sym (at k h)) (proper_name (get_or (n ∷ ns) k n));
+  proper = λ k h. subst (λ m. ¬ NoName m) (sym (at k h)) (get_or (n ∷ ns) k n).proper;
   different = λ j k p h e. names_differ (n ∷ ns) row up numbered listed (record { name = n; number = 0 }) j k p (omega (arith, length-map (n ∷ ns) letters)) (sym (at j (omega arith)) ∙ e ∙ at k h);
 }
   where

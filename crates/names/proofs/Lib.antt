@@ -1,3 +1,3 @@
-pub mod Plain
+pub mod Lexical
 pub mod Numbers
 pub mod Differing

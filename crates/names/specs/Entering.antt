@@ -3,6 +3,7 @@ use Rattle.std.specs.Prelude.{◌≡◌, ℕ, ◌+◌, ◌≤◌, cond, List, le
 use Rattle.row.specs.declared.Unplaced.{Unplaced}
 use Rattle.row.specs.Order.{Ascending}
 use Rattle.row.specs.Placing.{InsertOutcome, InsertSorted}
+use Rattle.names.specs.declared.name.Name.{Name}
 use Rattle.names.specs.declared.name.NameRecord.{NameRecord}
 use Rattle.names.specs.Order.{record_order}
 use Rattle.terms.specs.declared.refusal.Refusal.{Refusal}
@@ -26,6 +27,10 @@ NameGround n ms m BadRoot = ⊥
 NameGround n ms m Unfit = ⊥
 NameGround n ms m BadText = ⊥
 NameGround n ms m NoMemory = ⊥
+
+-- the record of a name and its number
+abbrev pub numbered : Name → ℕ → NameRecord
+numbered m k = record { name = m; number = k }
 
 -- the slots begin with a row of n records, and x was put into it or not
 pub record Placed (x : NameRecord) (n : ℕ) (slots after : List NameRecord) (r : Result ℕ Unplaced) : Type 0 where

@@ -1,6 +1,6 @@
 -- The letters of a name.
-use Rattle.std.specs.Prelude.{ℕ, List, take}
+use Rattle.std.specs.Prelude.{ℕ, List}
 use Rattle.names.specs.declared.name.Name.{Name}
 
 abbrev pub letters : Name → List ℕ
-letters n = take n.len n.bytes
+letters n = n.text.bytes

@@ -5,4 +5,3 @@ pub mod Numbered
 pub mod Texts
 pub mod Entering
 pub mod Kept
-pub mod Lexical

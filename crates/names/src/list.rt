@@ -11,6 +11,7 @@ mod entering;
 mod making;
 
 // Names that differ, at most MOST, numbered from 0 as entered. `records` begins with a row of them in order, by which one is found.
+// It has all MOST slots from the first, and lends them to a `Row` for each call: a row is a struct over a lent slice, and entering a name allocates nothing.
 #[derive(Drop)]
 pub struct NameList<const MOST: usize> {
     names: Vec<Name>,

@@ -1,24 +1,25 @@
 // A name, and records of names.
-ghost use Rattle.std.specs.Prelude.{◌≡◌, ℕ, ◌<◌, ◌≤◌, length, slice_index};
-ghost use Rattle.names.specs.Spelling.{Odd};
+ghost use Rattle.names.specs.Spelling.{NoName};
 
-mod order;
+use arrayvec::ArrayString;
+
 mod spelling;
 
-// A name: 1 to 12 ASCII letters, digits or hyphens.
-#[derive(Clone, Copy)]
+// The most letters of a name.
+const LONGEST: usize = 12;
+
+// A name: 1 to 12 ASCII letters, digits or hyphens. Names stand byte by byte, a shorter one before what continues it.
+#[derive(Clone, Copy, PartialEq, Eq, PartialOrd, Ord, Debug)]
 pub struct Name {
-    bytes: [u8; 12],
-    len: usize,
-    ghost whole: { length bytes ≡ 12 },
-    ghost some: { 0 < len },
-    ghost fits: { len ≤ 12 },
-    ghost plain: { ((k : ℕ) → k < len → Odd (slice_index bytes k) → ⊥) },
+    text: ArrayString<LONGEST>,
+    ghost proper: { NoName text.bytes → ⊥ },
 }
 
-// A name with the number that it was entered under.
+// A name with the number that it was entered under. Records stand as their names do.
 #[derive(Clone, Copy)]
+#[derive_where(PartialEq, Eq, PartialOrd, Ord)]
 pub struct NameRecord {
     pub name: Name,
+    #[derive_where(skip(EqHashOrd))]
     pub number: usize,
 }

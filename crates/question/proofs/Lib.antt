@@ -1,3 +1,2 @@
-pub mod Slots
+pub mod Asking
 pub mod Retesting
-pub mod Trying

@@ -1,4 +1,4 @@
--- What stands in a question's slot that is not in use.
+-- The line that a question is read to have past its last one.
 use Rattle.terms.specs.declared.question.QuestionLine.{QuestionLine}
 use Rattle.terms.specs.declared.question.Comparison.TheVariants.{NotBelow}
 

@@ -1,5 +1,5 @@
 -- A judgement of a question with one more line on trial.
-use Rattle.std.specs.Prelude.{◌≡◌, Bool, true, false, ◌⊎◌, List, [], ◌∷◌, ◌++◌, Ok, Err, Result}
+use Rattle.std.specs.Prelude.{◌≡◌, ◌⊎◌, List, [], ◌∷◌, ◌++◌, Ok, Err, Result}
 use Rattle.terms.specs.declared.question.QuestionLine.{QuestionLine}
 use Rattle.terms.specs.declared.refusal.Refusal.{Refusal}
 use Rattle.terms.specs.declared.refusal.Refused.{Refused}
@@ -8,12 +8,6 @@ use Rattle.terms.specs.Answers.{Answered}
 use Rattle.terms.specs.Among.{Among}
 use Rattle.book.specs.States.{State, trial}
 use Rattle.book.specs.Grounds.{Ground}
-
--- what laying a line leaves of the lines qs: refused, nothing; a line that is there already counts as laid; any other comes behind them
-abbrev pub Laid : List QuestionLine → QuestionLine → Result Bool Refusal → List QuestionLine → Type 0
-Laid qs q (Err e) ls = ls ≡ qs
-Laid qs q (Ok false) ls = Among qs q × (ls ≡ qs)
-Laid qs q (Ok true) ls = ¬ Among qs q × (ls ≡ qs ++ q ∷ [])
 
 -- ls are the lines qs with q on trial
 abbrev pub OnTrial : List QuestionLine → QuestionLine → List QuestionLine → Type 0

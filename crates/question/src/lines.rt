@@ -1,24 +1,18 @@
 // Entering lines in a question, and clearing it.
-ghost use Rattle.std.specs.Prelude.{◌≡◌, ℕ, ◌-◌, ◌<◌, true, [], ◌∷◌, ◌++◌, length, take, Decides};
+ghost use Rattle.std.specs.Prelude.{◌≡◌, [], length, Decides};
 ghost use Rattle.terms.specs.Answers.{Answered};
 ghost use Rattle.terms.specs.Among.{Among};
-ghost use Rattle.book.specs.States.{enter, a_line, clear};
+ghost use Rattle.book.specs.States.{enter, a_line};
 ghost use Rattle.book.specs.Grounds.{Ground};
 ghost use Rattle.book.specs.Steps.{Step};
 ghost use Rattle.book.specs.Models.{model};
 ghost use Rattle.question.specs.Asked.{asked, beside};
 
 use crate::Question;
+use arrayvec::ArrayVec;
 use book::Book;
-use terms::question::{Comparison, QuestionLine};
+use terms::question::QuestionLine;
 use terms::refusal::{Refusal, Refused};
-use terms::same::has;
-
-const BLANK: QuestionLine = QuestionLine {
-    concept: 0,
-    comparison: Comparison::NotBelow,
-    degree: 0,
-};
 
 impl Question {
     // A question without lines.
@@ -26,54 +20,33 @@ impl Question {
         ensures { asked result ≡ [] }
     {
         Question {
-            slots: [BLANK; 32],
-            count: 0,
+            lines: ArrayVec::new(),
         }
     }
 
     pub fn len(&self) -> usize
         ensures { result ≡ length (asked self.now) }
     {
-        self.lines().len()
+        self.lines.len()
     }
 
     // The lines, by number.
     pub fn lines(&self) -> &[QuestionLine]
         ensures { result.now ≡ asked self.now }
     {
-        &self.slots[0..self.count]
+        self.lines.as_slice()
     }
 
     pub(crate) fn has(&self, line: QuestionLine) -> bool
         ensures { Decides result (Among (asked self.now) line) }
     {
-        has(self.lines(), line)
-    }
-
-    // Puts one more line behind the others.
-    pub(crate) fn put(&mut self, line: QuestionLine)
-        requires { length (asked self.old) < 32 }
-        ensures { asked self.new ≡ asked self.old ++ line ∷ [] }
-    {
-        let count = self.count;
-        self.slots[count] = line;
-        self.count = count + 1;
-    }
-
-    // Takes the last line off.
-    pub(crate) fn take_off(&mut self)
-        requires { 0 < length (asked self.old) }
-        ensures { asked self.new ≡ take (length (asked self.old) - 1) (asked self.old) }
-    {
-        let last = self.count - 1;
-        self.slots[last] = BLANK;
-        self.count = last;
+        self.lines().contains(&line)
     }
 
     pub(crate) fn may_enter(&self, book: &Book, line: QuestionLine) -> Result<(), Refusal>
         ensures { Answered (Ground (beside (model book.now) (asked self.now)) (enter (a_line line))) result }
     {
-        if self.len() >= 32 {
+        if self.lines.is_full() {
             return Err(Refusal::Full);
         }
         if line.concept >= book.concepts().len() {
@@ -94,7 +67,7 @@ impl Question {
     {
         self.may_enter(book, line)?;
         let number = self.len();
-        self.put(line);
+        self.lines.push(line);
         Ok(number)
     }
 
@@ -102,6 +75,6 @@ impl Question {
     pub fn clear(&mut self)
         ensures { asked self.new ≡ [] }
     {
-        *self = Question::new();
+        self.lines.clear();
     }
 }

@@ -1,19 +1,17 @@
 // Judging a question with one more line on trial.
-ghost use Rattle.std.specs.Prelude.{◌≡◌, ◌-◌, ◌<◌, true, List, length, take, if◌then◌else◌, Result};
+ghost use Rattle.std.specs.Prelude.{◌≡◌, ◌-◌, ◌<◌, List, length, take, Result};
 ghost use Rattle.terms.specs.declared.question.QuestionLine.{QuestionLine};
 ghost use Rattle.terms.specs.declared.refusal.Refused.{Refused};
-ghost use Rattle.terms.specs.Answers.{Answered};
-ghost use Rattle.book.specs.States.{BookModel, trial};
-ghost use Rattle.book.specs.Grounds.{Ground};
+ghost use Rattle.book.specs.States.{BookModel};
 ghost use Rattle.book.specs.Models.{model};
 ghost use Rattle.question.specs.Asked.{asked, beside};
 ghost use Rattle.question.specs.Retests.{Retested};
-ghost use Rattle.question.specs.Trials.{Laid, Tried};
+ghost use Rattle.question.specs.Trials.{Tried};
 
 use crate::Question;
 use book::Book;
 use terms::question::QuestionLine;
-use terms::refusal::{Refusal, Refused};
+use terms::refusal::Refused;
 
 // A judgement of book and question. What its answer means is its own to say.
 pub trait Judgement {
@@ -25,40 +23,22 @@ pub trait Judgement {
         ensures { judged self.now (model book.now) (asked question.now) result };
 }
 
-impl Question {
-    // Lays a line unless it is there; says whether it did.
-    fn lay(&mut self, book: &Book, line: QuestionLine) -> Result<bool, Refusal>
-        ensures answer { Answered (Ground (beside (model book.now) (asked self.old)) (trial line)) result }
-        ensures after { Laid (asked self.old) line result (asked self.new) }
-    {
-        if self.has(line) {
-            return Ok(false);
-        }
-        self.may_enter(book, line)?;
-        self.put(line);
-        Ok(true)
-    }
-}
-
-// A question while a line is on trial. At its end it takes the line off again, if it was laid.
+// A question while a line on trial is its last. At its end it takes that line off again.
 struct Trial<'q> {
     question: &'q mut Question,
-    laid: bool,
 }
 
 impl Drop for Trial<'_> {
     fn drop(self)
-        requires { self.laid ≡ true → 0 < length (asked self.question.now) }
-        ensures { asked self.exit.0.now ≡ (if self.entry.laid then take (length (asked self.entry.question.now) - 1) (asked self.entry.question.now) else asked self.entry.question.now) }
+        requires { 0 < length (asked self.question.now) }
+        ensures { asked self.exit.0.now ≡ take (length (asked self.entry.question.now) - 1) (asked self.entry.question.now) }
     {
-        let Trial { question, laid } = self;
-        if laid {
-            question.take_off();
-        }
+        let Trial { question } = self;
+        question.lines.pop();
     }
 }
 
-// The judgement of the question with one more line, which is gone again on every way out.
+// The judgement of the question with one more line, which is gone again on every way out. A line that is there counts as laid.
 pub fn with_trial<J: Judgement>(
     book: &Book,
     question: &mut Question,
@@ -68,8 +48,12 @@ pub fn with_trial<J: Judgement>(
     ensures same { question.new ≡ question.old }
     ensures value { Tried (J.Judgement.judged judgement.now (model book.now)) (beside (model book.now) (asked question.old)) line result }
 {
-    let laid = question.lay(book, line)?;
-    let trial = Trial { question, laid };
+    if question.has(line) {
+        return judgement.judge(book, question);
+    }
+    question.may_enter(book, line)?;
+    question.lines.push(line);
+    let trial = Trial { question };
     let answer = judgement.judge(book, trial.question)?;
     Ok(answer)
 }

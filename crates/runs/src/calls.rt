@@ -2,7 +2,7 @@
 use terms::concept::Concept;
 use terms::question::QuestionLine;
 
-// One call, with what it is told.
+// One call, with what it is told. It is an enum and no closure, since the law over runs speaks of lists of calls as data.
 #[derive(Clone, Copy)]
 pub enum Call<'a> {
     // Begin the book anew with a fineness.

@@ -13,7 +13,7 @@ use book::Book;
 use question::Question;
 use question::trial::{Judgement, with_trial};
 use std::alloc::Global;
-use terms::refusal::{Refusal, Refused};
+use terms::refusal::Refused;
 
 // A judgement that finds nothing wanting: it shows only whether a line can be laid.
 struct Unjudged;
@@ -33,18 +33,12 @@ pub fn perform(book: &mut Book, question: &mut Question, call: Call<'_>) -> Resu
     ensures { Step (beside (model book.old) (asked question.old)) (meant call.entry) result (beside (model book.new) (asked question.new)) }
 {
     match call {
-        Call::Begin(fineness) => {
-            book.begin(fineness)?;
-            Ok(0)
-        }
+        Call::Begin(fineness) => book.begin(fineness).map(|()| 0),
         Call::EnterHeading(name) => book.enter_heading(name),
         Call::EnterRole(name) => book.enter_role(name),
         Call::EnterConcept(concept) => book.enter_concept(concept),
         Call::EnterInclusion { lower, upper } => book.enter_inclusion(lower, upper),
-        Call::StrikeInclusion(number) => {
-            book.strike_inclusion(number)?;
-            Ok(0)
-        }
+        Call::StrikeInclusion(number) => book.strike_inclusion(number).map(|()| 0),
         Call::EnterLine(line) => question.enter(book, line),
         Call::ClearQuestion => {
             question.clear();
@@ -64,13 +58,7 @@ pub fn replay(
     ensures lawful { MatchResult result (λ replies. Lawful (beside (model book.old) (asked question.old)) (events calls.now replies.items) (beside (model book.new) (asked question.new))) (λ x. (x ≡ unplaced NoMemory) × (book.new ≡ book.old) × (question.new ≡ question.old)) }
     ensures answered { IfOk result (λ replies. length replies.items ≡ length calls.now) }
 {
-    let mut replies: Vec<Result<usize, Refused>> = match Vec::with_capacity(heap, calls.len()) {
-        Ok(replies) => replies,
-        Err(_) => return Err(Refused {
-            refusal: Refusal::NoMemory,
-            place: 0,
-        }),
-    };
+    let mut replies = Vec::with_capacity(heap, calls.len())?;
     for call in calls {
         let reply = perform(book, question, *call);
         replies.push_reserved(reply);

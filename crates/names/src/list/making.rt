@@ -1,5 +1,6 @@
 // Making a list of names, and clearing one.
-ghost use Rattle.std.specs.Prelude.{◌≡◌, [], length, IfOk};
+ghost use Rattle.std.specs.Prelude.{◌≡◌, [], length, map, IfOk};
+ghost use Rattle.names.specs.Letters.{letters};
 ghost use Rattle.names.specs.Texts.{texts};
 
 use crate::list::NameList;
@@ -25,6 +26,13 @@ impl<const MOST: usize> NameList<MOST> {
         ensures { texts self.new ≡ [] }
     {
         self.names.clear();
+    }
+
+    // The names, by number.
+    pub fn names(&self) -> &[Name]
+        ensures { map letters result.now ≡ texts self.now }
+    {
+        self.names.as_slice()
     }
 
     pub fn len(&self) -> usize

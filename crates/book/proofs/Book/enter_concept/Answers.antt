@@ -1,9 +1,8 @@
-use Rattle.std.proofs.Common.{◌≡◌, ◌+◌, ◌≤◌, [], ◌∷◌, ◌++◌, length, vec_items, sym, subst, arith}
-use Rattle.std.proofs.lemmas.List.{length_push}
-use Rattle.terms.specs.declared.refusal.Refusal.TheVariants.{Full, Missing, TooHigh, Already}
+use Rattle.std.proofs.Common.{length, vec_items, sym, subst, arith}
+use Rattle.terms.specs.declared.refusal.Refusal.TheVariants.{Missing, TooHigh, Already}
 use Rattle.terms.proofs.Least.{free_of}
 use Rattle.names.specs.Texts.{texts}
-use Rattle.book.specs.Citing.{no_concept, CitesMissing, CitesAbove, Founded, Graded, Apart, Joined}
+use Rattle.book.specs.Citing.{no_concept, CitesMissing, CitesAbove, Founded, Graded, Apart}
 use Rattle.book.specs.States.{enter, a_concept}
 use Rattle.book.specs.Grounds.{Ground}
 use Rattle.book.specs.Steps.{alone}
@@ -11,26 +10,24 @@ use Rattle.book.specs.Models.{model}
 use Rattle.book.proofs.Entered.{each_push, apart_push}
 use Rattle.book.proofs.Book.enter_concept.Goals as goal
 
-pub invariant_of-self : goal.invariant_of-self
-invariant_of-self c =
+pub invariant_of-self-clause-founded : goal.invariant_of-self-clause-founded
+invariant_of-self-clause-founded c =
     let b = c.args.self.now in
-    let xs = vec_items b.concepts in
-    let x = c.args.concept in
-    let e = sym c.push_reserved.ensures.items in
+    let free = free_of (Ground (alone (model b)) (enter (a_concept c.args.concept))) c.in_ok-may_enter_concept.ensures in
     let h = length (texts b.headings) in
     let r = length (texts b.roles) in
-    let free = free_of (Ground (alone (model b)) (enter (a_concept x))) c.in_ok-may_enter_concept.ensures in
-    let more : length (xs ++ x ∷ []) ≡ length xs + 1 = length_push xs x in
-    let short : ¬ (128 ≤ length xs) = free Full (omega arith) in
-    record {
-      some = b.some;
-      fine = b.fine;
-      few = subst (λ ys. length ys ≤ 128) e (omega arith);
-      room = omega (arith, c.push_reserved.ensures.capacity);
-      founded = subst (Founded h r) e (each_push (λ k d. ¬ CitesMissing h r k d) xs x no_concept b.founded (free Missing (omega arith)));
-      graded = subst (Graded b.fineness) e (each_push (λ k d. ¬ CitesAbove b.fineness d) xs x no_concept b.graded (free TooHigh (omega arith)));
-      apart = subst Apart e (apart_push xs x b.apart (free Already (omega arith)));
-      rules = b.rules;
-      space = b.space;
-      joined = subst (λ ys. Joined (length ys) (vec_items b.inclusions.records)) e (λ k t. (omega (arith, (b.joined k t).0), omega (arith, (b.joined k t).1)));
-    }
+    subst (Founded h r) (sym c.push_reserved.ensures.items)
+    (each_push (λ k d. ¬ CitesMissing h r k d) (vec_items b.concepts) c.args.concept no_concept b.founded (free Missing (omega arith)))
+
+pub invariant_of-self-clause-graded : goal.invariant_of-self-clause-graded
+invariant_of-self-clause-graded c =
+    let b = c.args.self.now in
+    let free = free_of (Ground (alone (model b)) (enter (a_concept c.args.concept))) c.in_ok-may_enter_concept.ensures in
+    subst (Graded b.fineness.steps) (sym c.push_reserved.ensures.items)
+    (each_push (λ k d. ¬ CitesAbove b.fineness.steps d) (vec_items b.concepts) c.args.concept no_concept b.graded (free TooHigh (omega arith)))
+
+pub invariant_of-self-clause-apart : goal.invariant_of-self-clause-apart
+invariant_of-self-clause-apart c =
+    let b = c.args.self.now in
+    let free = free_of (Ground (alone (model b)) (enter (a_concept c.args.concept))) c.in_ok-may_enter_concept.ensures in
+    subst Apart (sym c.push_reserved.ensures.items) (apart_push (vec_items b.concepts) c.args.concept b.apart (free Already (omega arith)))

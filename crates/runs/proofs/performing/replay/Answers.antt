@@ -1,4 +1,4 @@
-use Rattle.std.proofs.Common.{◌≡◌, ◌+◌, [], ◌∷◌, ◌++◌, length, get_or, take, vec_items, sym, refl, ap, ◌∙◌, subst, arith, length-take-le, take_all, rules}
+use Rattle.std.proofs.Common.{◌≡◌, ◌+◌, [], ◌∷◌, ◌++◌, length, get_or, take, vec_items, sym, ap, ◌∙◌, subst, arith, length-take-le, take_all, rules}
 use Rattle.std.proofs.lemmas.List.{take_more}
 use Rattle.book.specs.States.{State}
 use Rattle.book.specs.Models.{model}
@@ -9,9 +9,6 @@ use Rattle.runs.specs.Calls.{meant, events}
 use Rattle.runs.specs.Histories.{Event, Run}
 use Rattle.runs.proofs.Lawfully.{lawful, run_push, events_push}
 use Rattle.runs.proofs.performing.replay.Goals as goal
-
-pub loop-call-init : goal.loop-call-init
-loop-call-init c = (refl, search rules, search rules)
 
 pub loop-call-preserved : goal.loop-call-preserved
 loop-call-preserved c =
