@@ -1,5 +1,9 @@
 -- A line appended to the row that part of a store is.
-use Rattle.std.proofs.Common.{◌≡◌, ℕ, ◌+◌, ◌-◌, ◌<◌, ◌≤◌, min, Bool, true, false, cond, List, [], ◌∷◌, ◌++◌, length, take, drop, set, is_ok, Ok, Err, Result, sym, refl, ap, ◌∙◌, subst, ap₂, zero-add, arith}
+use Rattle.std.proofs.Math.Path.{fun_ext}
+use Rattle.std.specs.declared.cmp.Ordering.{Ordering}
+use Rattle.std.specs.Result.{result_ok}
+use Rattle.terms.specs.contracts.line.LineOrd.TheImpl as line_ord
+use Rattle.std.proofs.Common.{◌≡◌, ℕ, ◌+◌, ◌-◌, ◌<◌, ◌≤◌, min, Bool, true, false, cond, List, [], ◌∷◌, ◌++◌, length, take, drop, set, is_ok, Ok, Err, Result, Option, sym, refl, ap, ◌∙◌, subst, ap₂, zero-add, inl, ⊎_elim, arith, rules}
 use borrow.Rule.Slice.PartMut.{put_mid}
 use Rattle.std.proofs.lemmas.List.{take-append-drop, take_more_set, drop-set-lt, drop-set-add, take-set-le, length-take-le, length-drop, drop_all, drop_at, append-nil, take_rest}
 use Rattle.row.specs.declared.Row.{Row}
@@ -9,9 +13,13 @@ use Rattle.row.specs.Order.{Ascending, LastBelow, LastNotBelow}
 use Rattle.row.specs.Placing.{AppendOutcome}
 use Rattle.row.specs.Rows.{items, room, Kept}
 use Rattle.terms.specs.declared.line.Line.{Line}
-use Rattle.terms.specs.Lines.{line_order, zero_line}
+use Rattle.terms.specs.Lines.{line_order, zero_line, BoundOutside}
 use Rattle.sheet.specs.Entries.{part}
-use Rattle.sheet.specs.Labels.{Appended}
+use Rattle.sheet.specs.Labels.{Appended, LineEnteredIn}
+
+-- the derived order of lines is theirs
+derived_order : line_ord.ghosts.cmp ≡ line_order
+derived_order = fun_ext (λ (l : Line). fun_ext (λ (m : Line). search rules))
 
 -- what a row was over tells what its slots become
 module _ (x : Line) (n : ℕ) (slots after : List Line) (r r' : Row Line) (fits : n ≤ length slots)
@@ -38,8 +46,10 @@ module _ (x : Line) (n : ℕ) (slots after : List Line) (r r' : Row Line) (fits 
       sym (take-append-drop (n + 1) after) ∙ ap₂ ◌++◌ first rest ∙ take-append-drop (n + 1) S ∙ ap (λ (m : ℕ). set slots m x) (sym (zero-add n))
   row_slots (Err e) o k = back ∙ k.refused refl ∙ slots-is
 
-  pub appended_row : (res : Result ℕ Unplaced) → AppendOutcome line_order x (items r) (room r) (items r') res → (Ascending line_order (items r) → Ascending line_order (items r')) → Kept r r' (is_ok res) → Appended x 0 n slots after res
-  appended_row res o up k =
+  pub appended_row : (res : Result ℕ Unplaced) → AppendOutcome line_ord.ghosts.cmp x (items r) (room r) (items r') res → (Ascending line_ord.ghosts.cmp (items r) → Ascending line_ord.ghosts.cmp (items r')) → Kept r r' (is_ok res) → Appended x 0 n slots after res
+  appended_row res given rising k =
+      let o = subst (λ (f : Line → Line → Ordering). AppendOutcome f x (items r) (room r) (items r') res) derived_order given in
+      let up = subst (λ (f : Line → Line → Ordering). Ascending f (items r) → Ascending f (items r')) derived_order rising in
       let size : room r ≡ length slots - 0 = omega (arith, ap length slots-is) in
       record {
         outcome =
@@ -81,10 +91,23 @@ module _ (x : Line) (k n : ℕ) (ls ms : List Line) (fits : k + n ≤ length ls)
       }
 
 -- a row with room refuses a line only if it is not above the last
-pub refused_above : (x : Line) (xs ys : List Line) (m : ℕ) (e : Unplaced) → length xs < m → AppendOutcome line_order x xs m ys (Err e) → LastNotBelow line_order x xs
+refused_above : (x : Line) (xs ys : List Line) (m : ℕ) (e : Unplaced) → length xs < m → AppendOutcome line_order x xs m ys (Err e) → LastNotBelow line_order x xs
 refused_above x xs ys m (There i) h o = absurd o
 refused_above x xs ys m Full h o = absurd (let e = o.0 in omega arith)
 refused_above x xs ys m NotAbove h o = o.1
 
-pub accepted_above : (x : Line) (xs : List Line) → LastBelow line_order x xs → ¬ LastNotBelow line_order x xs
+accepted_above : (x : Line) (xs : List Line) → LastBelow line_order x xs → ¬ LastNotBelow line_order x xs
 accepted_above x xs last h = h.1 zero_line (last h.0 zero_line)
+
+-- a line that fits its bound is entered where it could be appended
+entered_from : (x : Line) (k n : ℕ) (ls after : List Line) (res : Result ℕ Unplaced) → k + n < length ls → ¬ BoundOutside x → Appended x k n ls after res → LineEnteredIn x k n ls after (result_ok res)
+entered_from x k n ls after (Ok i) lt within a = (λ h. ⊎_elim (accepted_above x (part k n ls) a.outcome.1) within h, a)
+entered_from x k n ls after (Err e) lt within a =
+    let short : length (part k n ls) < length ls - k = omega (arith, length-take-le n (drop k ls) (omega (arith, length-drop k ls))) in (
+      inl (refused_above x (part k n ls) _ (length ls - k) e short a.outcome),
+      a.slots_are,
+    )
+
+pub entered_in : (x : Line) (k n : ℕ) (ls after : List Line) (res : Result ℕ Unplaced) (o : Option ℕ) → o ≡ result_ok res → k + n < length ls → ¬ BoundOutside x → Appended x k n ls after res → LineEnteredIn x k n ls after o
+entered_in x k n ls after res o is lt within a =
+    subst (λ (p : Option ℕ). LineEnteredIn x k n ls after p) (sym is) (entered_from x k n ls after res lt within a)

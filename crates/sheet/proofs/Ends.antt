@@ -1,5 +1,6 @@
 -- Where the lines of entries end, and that what lies past them does not change an entry.
 use Rattle.std.proofs.Common.{◌≡◌, ℕ, ◌+◌, ◌<◌, ◌≤◌, min, max, List, [], ◌∷◌, ◌++◌, map, length, take, drop, sym, refl, ap, ◌∙◌, ⊎_elim, arith}
+use Rattle.std.specs.Prelude.{fold}
 use Rattle.std.proofs.lemmas.List.{take_all, drop-take, take-take}
 use Rattle.std.proofs.lemmas.Bool.{cases_lt}
 use Rattle.terms.specs.declared.line.Line.{Line}
@@ -13,6 +14,11 @@ last_end_le n (e ∷ es) = let h = last_end_le n es in omega arith
 pub last_end_push : (n : ℕ) (es : List EntrySlot) (e : EntrySlot) → last_end n (es ++ e ∷ []) ≡ max (last_end n es) (end_in n e)
 last_end_push n [] e = omega arith
 last_end_push n (x ∷ es) e = let h = last_end_push n es e in omega arith
+
+-- the furthest end, reckoned from the front
+pub last_end_fold : (n a : ℕ) (es : List EntrySlot) → fold (λ (m : ℕ) (e : EntrySlot). max (end_in n e) m) a es ≡ max a (last_end n es)
+last_end_fold n a [] = omega arith
+last_end_fold n a (e ∷ es) = last_end_fold n (max (end_in n e) a) es ∙ omega arith
 
 -- lines that agree up to where a part ends have the same part
 part_same : (k n w : ℕ) (ls ms : List Line) → length ls ≡ length ms → min (k + n) (length ls) ≤ w → take w ls ≡ take w ms → part k n ls ≡ part k n ms

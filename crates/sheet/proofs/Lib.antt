@@ -1,3 +1,5 @@
 mod Ends
 mod Stores
 mod Appending
+mod Entered
+pub mod Same

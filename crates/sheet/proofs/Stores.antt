@@ -1,28 +1,29 @@
 -- What calls leave of a store's slots.
-use Rattle.std.proofs.Common.{◌≡◌, ℕ, ◌+◌, ◌-◌, ◌<◌, ◌≤◌, min, List, [], ◌∷◌, ◌++◌, map, length, take, drop, set, replicate, sym, ap, ◌∙◌, ap₂, ⊎_elim, arith}
-use Rattle.std.proofs.lemmas.List.{length-map, length-take, length-set, length-drop, length-append, length-replicate, length-take-le, take_all, take_at, drop_at, drop_all, drop-drop, drop-replicate, drop-set-lt, drop-set-add, take_more_set, map_push, append-nil, append_assoc, replicate-append-replicate}
-use Rattle.std.proofs.lemmas.Bool.{cases_lt}
+use Rattle.std.proofs.Common.{◌≡◌, ℕ, ◌+◌, ◌-◌, ◌<◌, ◌≤◌, min, List, [], ◌∷◌, ◌++◌, map, length, take, drop, set, replicate, sym, ap, ◌∙◌, ap₂, arith}
+use borrow.Rule.Slice.PartMut.{put_mid}
+use Rattle.std.proofs.lemmas.List.{length-map, length-take, length-set, length-drop, length-append, length-replicate, length-take-le, take_at, drop_at, drop-drop, drop-replicate, drop-set-lt, take_more_set, map_push, append_assoc, replicate-append-replicate}
 use Rattle.terms.specs.declared.line.Line.{Line}
 use Rattle.sheet.specs.declared.EntrySlot.{EntrySlot}
-use Rattle.sheet.specs.Entries.{part, entry_of, entries_in, wiped}
+use Rattle.sheet.specs.Entries.{entry_of, entries_in, wiped}
 
 pub entries_length : (es : List EntrySlot) (ls : List Line) (n : ℕ) → length (entries_in es ls n) ≡ min n (length es)
 entries_length es ls n = length-map (take n es) (entry_of ls) ∙ length-take n es
 
 -- ---- wiping
 
-pub wiped_all : {X : Type 0} (y : X) (xs : List X) → wiped y xs 0 (length xs) ≡ replicate (length xs) y
-wiped_all y xs =
-    let m : min (length xs) (length xs - 0) ≡ length xs = omega arith in
-    ap (λ (n : ℕ). replicate n y ++ drop (0 + n) xs) m
-    ∙ ap (λ zs. replicate (length xs) y ++ zs) (drop_all (0 + length xs) xs (omega arith))
-    ∙ append-nil (replicate (length xs) y)
-
 module _ {X : Type 0} (y : X) (xs : List X) (k n : ℕ) (fits : k + n ≤ length xs) where
   wiped_is : wiped y xs k n ≡ take k xs ++ replicate n y ++ drop (k + n) xs
   wiped_is =
       let m : min n (length xs - k) ≡ n = omega arith in
       ap (λ (i : ℕ). take k xs ++ replicate i y ++ drop (k + i) xs) m
+
+  -- what a store becomes where its slots from number k to k + n are all made y
+  pub wiped_mid : (zs : List X) → zs ≡ replicate (length (take (k + n - k) (drop k xs))) y → put_mid k (k + n - k) xs zs ≡ wiped y xs k n
+  wiped_mid zs e =
+      let m : length (take (k + n - k) (drop k xs)) ≡ n = omega (arith, length-take (k + n - k) (drop k xs), length-drop k xs) in
+      let d : k + n - k ≡ n = omega arith in
+      let rest : drop (k + n - k) (drop k xs) ≡ drop (k + n) xs = ap (λ (i : ℕ). drop i (drop k xs)) d ∙ drop-drop n k xs in
+      ap₂ (λ (zs ys : List X). take k xs ++ (zs ++ ys)) (e ∙ ap (λ (i : ℕ). replicate i y) m) rest ∙ sym (append_assoc (take k xs) (replicate n y) (drop (k + n) xs)) ∙ sym wiped_is
 
   pub wiped_length : length (wiped y xs k n) ≡ length xs
   wiped_length =
@@ -52,32 +53,5 @@ blank_more y xs n x lt e =
     drop-set-lt (n + 1) xs n x (omega arith)
     ∙ sym (drop-drop 1 n xs) ∙ ap (drop 1) e ∙ drop-replicate 1 (length xs - n) y ∙ ap (λ (m : ℕ). replicate m y) (sym k)
 
-pub part_more : (ls : List Line) (k n : ℕ) (x : Line) → k + n < length ls → part k (n + 1) (set ls (k + n) x) ≡ part k n ls ++ x ∷ []
-part_more ls k n x lt =
-    ap (take (n + 1)) (drop-set-add k ls n x) ∙ take_more_set (drop k ls) n x (omega (arith, length-drop k ls))
-
 pub entries_more : (es : List EntrySlot) (ls : List Line) (n : ℕ) (e : EntrySlot) → n < length es → entries_in (set es n e) ls (n + 1) ≡ entries_in es ls n ++ entry_of ls e ∷ []
 entries_more es ls n e lt = ap (map (entry_of ls)) (take_more_set es n e lt) ∙ map_push (entry_of ls) (take n es) e
-
--- ---- as far as there are so many
-
-pub take_most : {X : Type 0} (n : ℕ) (xs : List X) → take (min n (length xs)) xs ≡ take n xs
-take_most n xs =
-    ⊎_elim
-    (λ (lt : n < length xs). let e : min n (length xs) ≡ n = omega arith in ap (λ (m : ℕ). take m xs) e)
-    (λ (ge : length xs ≤ n). let e : min n (length xs) ≡ length xs = omega arith in ap (λ (m : ℕ). take m xs) e ∙ take_all (length xs) xs (omega arith) ∙ sym (take_all n xs ge))
-    (cases_lt n (length xs))
-
-pub part_most : (k n : ℕ) (ls : List Line) → take (min (k + n) (length ls) - min k (length ls)) (drop (min k (length ls)) ls) ≡ part k n ls
-part_most k n ls =
-    ⊎_elim
-    (λ (lt : k < length ls).
-    let e : min k (length ls) ≡ k = omega arith in
-    let f : min (k + n) (length ls) - min k (length ls) ≡ min n (length (drop k ls)) = omega (arith, length-drop k ls) in
-    ap₂ take f (ap (λ (m : ℕ). drop m ls) e) ∙ take_most n (drop k ls))
-    (λ (ge : length ls ≤ k).
-    let e : min k (length ls) ≡ length ls = omega arith in
-    ap (take (min (k + n) (length ls) - min k (length ls))) (ap (λ (m : ℕ). drop m ls) e ∙ drop_all (length ls) ls (omega arith))
-    ∙ take_all (min (k + n) (length ls) - min k (length ls)) [] (omega arith)
-    ∙ sym (take_all n [] (omega arith)) ∙ ap (take n) (sym (drop_all k ls ge)))
-    (cases_lt k (length ls))

@@ -1,89 +1,80 @@
 // Entering the lines of an entry that is begun, and filing or striking it.
-ghost use Rattle.std.specs.Prelude.{◌≡◌, Decides, slice_set};
-ghost use Rattle.terms.specs.Lines.{BoundOutside};
-ghost use Rattle.sheet.specs.Calls.{LineAnswer, EntryFiled, EntryStruck};
+ghost use Rattle.std.specs.Prelude.{◌≡◌, ◌+◌, ◌<◌, length, IsNone};
+ghost use Rattle.sheet.specs.Labels.{LineEnteredIn};
+ghost use Rattle.sheet.specs.Calls.{LineAnswer, EntryFiled, EntryStruck, slot_of};
 
-use crate::labels::{append, end_within};
-use crate::wiping::{ZERO_LINE, wipe};
 use crate::{Begun, EntrySlot, Sheet};
 use terms::line::Line;
 use terms::refusal::{Refusal, Refused};
 
-// Whether the bound is outside -1 to 4,000.
-fn bound_outside(line: Line) -> bool
-    ensures { Decides result (BoundOutside line) }
-{
-    line.bound < -1 || line.bound > 4000
-}
+// The highest number that a concept may have.
+const LAST_CONCEPT: usize = 127;
 
-// Puts an entry into a slot, if there is that slot.
-fn put(entries: &mut [EntrySlot], number: usize, entry: EntrySlot)
-    ensures { entries.new ≡ slice_set entries.old number entry }
-{
-    if number < entries.len() {
-        entries[number] = entry;
+impl<'a> Sheet<'a> {
+    // Puts a line behind those of an entry that is not filed, unless it is misplaced there.
+    // (A step of the sheet, since the lines of a sheet that lies in another struct cannot be lent there.)
+    fn enter(&mut self, slot: EntrySlot, line: Line) -> Option<usize>
+        requires { slot.start + slot.count < length self.old.lines.now }
+        ensures line { LineEnteredIn line slot.start slot.count self.old.lines.now self.new.lines.now result }
+        ensures lent { self.new.lines.ghost_name ≡ self.old.lines.ghost_name }
+        ensures misplaced { IsNone result → self.new ≡ self.old }
+        ensures rest { (self.new.entries ≡ self.old.entries) × (self.new.used ≡ self.old.used) × (self.new.written ≡ self.old.written) }
+    {
+        let lines = &mut *self.lines;
+        slot.enter_in(lines, line)
     }
 }
 
 impl<'a> Begun<'a> {
+    // The entry as it is to lie in the store.
+    fn slot(&self) -> EntrySlot
+        ensures { result ≡ slot_of self.now }
+    {
+        EntrySlot {
+            head: self.head,
+            start: self.sheet.written,
+            count: self.count,
+        }
+    }
+
     // Enters a line behind the others of the label; returns its number there.
     pub fn line(&mut self, line: Line) -> Result<usize, Refused>
         ensures { LineAnswer self.old line result self.new }
     {
-        if line.concept > 127 {
-            return Err(Refused {
-                refusal: Refusal::Missing,
-                place: 0,
-            });
+        if line.concept > LAST_CONCEPT {
+            return Err(Refusal::Missing.into());
         }
-        let from = self.from;
-        let count = self.count;
-        let room = self.lines.len();
-        if end_within(from, count, room) >= room {
-            return Err(Refused {
-                refusal: Refusal::NoRoom,
-                place: 0,
-            });
+        if self.sheet.written + self.count >= self.sheet.lines.len() {
+            return Err(Refusal::NoRoom.into());
         }
-        if bound_outside(line) {
-            return Err(Refused {
-                refusal: Refusal::OutOfOrder,
-                place: 0,
-            });
-        }
-        match append(self.lines, from, count, line) {
-            Ok(number) => {
-                self.count = count + 1;
-                Ok(number)
-            }
-            Err(_) => Err(Refused {
-                refusal: Refusal::OutOfOrder,
-                place: 0,
-            }),
-        }
+        let slot = self.slot();
+        let number = self.sheet.enter(slot, line).ok_or(Refusal::OutOfOrder)?;
+        self.count += 1;
+        Ok(number)
     }
 
     // Files the entry with its lines.
     pub fn file(self) -> Sheet<'a>
         ensures { EntryFiled self.entry result }
     {
+        let slot = self.slot();
         let Begun {
-            entries,
-            lines,
-            used,
-            head,
-            from,
+            sheet,
+            head: _,
             count,
         } = self;
-        let start = from;
-        put(entries, used, EntrySlot { head, start, count });
-        let used = end_within(used, 1, entries.len());
-        let written = end_within(from, count, lines.len());
-        Sheet {
+        let Sheet {
             entries,
             lines,
             used,
             written,
+        } = sheet;
+        entries[used] = slot;
+        Sheet {
+            entries,
+            lines,
+            used: used + 1,
+            written: written + count,
         }
     }
 
@@ -92,19 +83,22 @@ impl<'a> Begun<'a> {
         ensures { EntryStruck self.entry result }
     {
         let Begun {
+            sheet,
+            head: _,
+            count,
+        } = self;
+        let Sheet {
             entries,
             lines,
             used,
-            head: _,
-            from,
-            count,
-        } = self;
-        wipe(lines, ZERO_LINE, from, count);
+            written,
+        } = sheet;
+        lines[written..written + count].fill(Line::default());
         Sheet {
             entries,
             lines,
             used,
-            written: from,
+            written,
         }
     }
 }

@@ -1,50 +1,39 @@
 // Finishing a sheet, reopening it, and taking over a store as a finished sheet.
-ghost use Rattle.std.specs.Prelude.{◌≡◌};
+ghost use Rattle.std.specs.Prelude.{◌≡◌, IfOk};
 ghost use Rattle.sheet.specs.Entries.{last_end};
-ghost use Rattle.sheet.specs.Calls.{FinishAnswer, ReopenedFrom, TakeAnswer};
+ghost use Rattle.sheet.specs.Calls.{FinishAnswer, ReopensAs, ReopenedFrom, TakeAnswer};
 
-use crate::labels::end_within;
-use crate::{EntrySlot, Finished, NotTaken, Sheet, Unchanged};
+use crate::keeping::MOST_ENTRIES;
+use crate::{EntrySlot, Finished, Sheet, Store, Unchanged};
 use terms::entry::Kind;
 use terms::line::Line;
-use terms::refusal::{Refusal, Refused};
+use terms::refusal::Refusal;
 
 // Where the lines of the entries end, in a store of `room` line slots.
 fn furthest_end(entries: &[EntrySlot], room: usize) -> usize
     ensures { result ≡ last_end room entries.now }
 {
-    let mut furthest = 0;
-    for entry in entries {
-        furthest = end_within(entry.start, entry.count, room).max(furthest);
-    }
-    furthest
+    entries
+        .iter()
+        .fold(0, |furthest, entry| entry.end_within(room).max(furthest))
 }
 
 impl<'a> Sheet<'a> {
     // Finishes the sheet: names its kind, and its root.
-    pub fn finish(self, kind: Kind, root: usize) -> Result<Finished<'a>, Unchanged<'a>>
-        ensures { FinishAnswer self.entry kind root result }
+    pub fn finish(self, kind: Kind, root: usize) -> Result<Finished<'a>, Unchanged<Sheet<'a>>>
+        ensures answer { FinishAnswer self.entry kind root result }
+        ensures back { IfOk result (λ f. ReopensAs f self.entry) }
     {
         if root >= self.used() {
-            let refused = Refused {
-                refusal: Refusal::BadRoot,
-                place: 0,
-            };
             return Err(Unchanged {
-                sheet: self,
-                refused,
+                value: self,
+                refused: Refusal::BadRoot.into(),
             });
         }
-        let Sheet {
-            entries,
-            lines,
-            used,
-            written: _,
-        } = self;
         Ok(Finished {
-            entries,
-            lines,
-            used,
+            entries: self.entries,
+            lines: self.lines,
+            used: self.used,
             kind,
             root,
         })
@@ -59,18 +48,13 @@ impl<'a> Finished<'a> {
         used: usize,
         kind: Kind,
         root: usize,
-    ) -> Result<Finished<'a>, NotTaken<'a>>
-        ensures { TakeAnswer (record { entries = entries.entry; lines = lines.entry; used = used; kind = kind; root = root }) result }
+    ) -> Result<Finished<'a>, Unchanged<Store<'a>>>
+        ensures { TakeAnswer entries.entry lines.entry used kind root result }
     {
-        if used > 1024 {
-            let refused = Refused {
-                refusal: Refusal::NoRoom,
-                place: 0,
-            };
-            return Err(NotTaken {
-                entries,
-                lines,
-                refused,
+        if used > MOST_ENTRIES {
+            return Err(Unchanged {
+                value: Store { entries, lines },
+                refused: Refusal::NoRoom.into(),
             });
         }
         Ok(Finished {
@@ -89,16 +73,9 @@ impl<'a> Finished<'a> {
     {
         let used = self.entries().len();
         let written = furthest_end(self.entries(), self.lines.len());
-        let Finished {
-            entries,
-            lines,
-            used: _,
-            kind: _,
-            root: _,
-        } = self;
         Sheet {
-            entries,
-            lines,
+            entries: self.entries,
+            lines: self.lines,
             used,
             written,
         }

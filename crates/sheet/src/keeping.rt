@@ -5,21 +5,29 @@ ghost use Rattle.sheet.specs.Sheets.{filed};
 ghost use Rattle.sheet.specs.Grounds.{Ground, NumberAbove};
 ghost use Rattle.sheet.specs.Calls.{Blank, beginning, BeginAnswer};
 
-use crate::wiping::{ZERO_LINE, ZERO_SLOT, wipe};
 use crate::{Begun, EntrySlot, Sheet, Unchanged};
 use terms::entry::Head;
 use terms::line::Line;
-use terms::refusal::{Refusal, Refused};
+use terms::refusal::Refusal;
 
-// Whether a number of the head is above 2,000.
+// The most that a number of a head may be.
+const MOST_NUMBER: usize = 2000;
+
+// The most entries of a sheet.
+pub(crate) const MOST_ENTRIES: usize = 1024;
+
+// Whether a number of the head is above the most.
 fn has_number_above(head: Head) -> bool
     ensures { Decides result (NumberAbove head) }
 {
-    head.place > 2000
-        || head.first > 2000
-        || head.second > 2000
-        || head.inclusion > 2000
-        || head.step > 2000
+    let numbers = [
+        head.place,
+        head.first,
+        head.second,
+        head.inclusion,
+        head.step,
+    ];
+    numbers.iter().any(|n| *n > MOST_NUMBER)
 }
 
 impl<'a> Sheet<'a> {
@@ -28,10 +36,8 @@ impl<'a> Sheet<'a> {
         ensures blank { Blank entries.old lines.old result }
         ensures lent { (result.entries.ghost_name ≡ entries.entry.ghost_name) × (result.lines.ghost_name ≡ lines.entry.ghost_name) }
     {
-        let slots = entries.len();
-        wipe(entries, ZERO_SLOT, 0, slots);
-        let room = lines.len();
-        wipe(lines, ZERO_LINE, 0, room);
+        entries.fill(EntrySlot::default());
+        lines.fill(Line::default());
         Sheet {
             entries,
             lines,
@@ -44,7 +50,7 @@ impl<'a> Sheet<'a> {
     pub fn used(&self) -> usize
         ensures { result ≡ length (filed self.now) }
     {
-        self.used.min(self.entries.len())
+        self.used
     }
 
     fn may_begin(&self, head: Head) -> Result<(), Refusal>
@@ -54,35 +60,27 @@ impl<'a> Sheet<'a> {
             return Err(Refusal::Missing);
         }
         let n = self.used();
-        if n >= 1024 || n >= self.entries.len() {
+        if n >= MOST_ENTRIES || n >= self.entries.len() {
             return Err(Refusal::NoRoom);
         }
         Ok(())
     }
 
     // Begins an entry, which is then to be filed or struck.
-    pub fn begin(self, head: Head) -> Result<Begun<'a>, Unchanged<'a>>
+    pub fn begin(self, head: Head) -> Result<Begun<'a>, Unchanged<Sheet<'a>>>
         ensures { BeginAnswer self.entry head result }
     {
-        if let Err(refusal) = self.may_begin(head) {
-            return Err(Unchanged {
+        // A match, since both answers take the sheet.
+        match self.may_begin(head) {
+            Ok(()) => Ok(Begun {
                 sheet: self,
-                refused: Refused { refusal, place: 0 },
-            });
+                head,
+                count: 0,
+            }),
+            Err(refusal) => Err(Unchanged {
+                value: self,
+                refused: refusal.into(),
+            }),
         }
-        let Sheet {
-            entries,
-            lines,
-            used,
-            written,
-        } = self;
-        Ok(Begun {
-            entries,
-            lines,
-            used,
-            head,
-            from: written,
-            count: 0,
-        })
     }
 }

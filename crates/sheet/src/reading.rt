@@ -1,19 +1,11 @@
 // Reading a finished sheet, whatever lies in its store.
-ghost use Rattle.std.specs.Prelude.{◌≡◌, ◌+◌, ◌≤◌, length, take, Decides, slice_index_or};
+ghost use Rattle.std.specs.Prelude.{◌≡◌, take, Decides, slice_index_or};
 ghost use Rattle.sheet.specs.Entries.{no_entry};
 ghost use Rattle.sheet.specs.Sheets.{filed_finished, Lies};
 
-use crate::labels::lines_from;
 use crate::{EntrySlot, Finished};
 use terms::entry::Kind;
 use terms::line::Line;
-
-// Whether an entry's lines end within so many slots.
-fn ends_within(entry: EntrySlot, room: usize) -> bool
-    ensures { Decides result (entry.start + entry.count ≤ room) }
-{
-    entry.start <= room && entry.count <= room - entry.start
-}
 
 impl<'a> Finished<'a> {
     // The slots of the entries that lie in the store.
@@ -21,7 +13,7 @@ impl<'a> Finished<'a> {
         ensures { result.now ≡ take self.now.used self.now.entries.now }
     {
         let used = self.used.min(self.entries.len());
-        &self.entries[0..used]
+        &self.entries[..used]
     }
 
     // How many entries the sheet has, in the store or past it.
@@ -47,23 +39,18 @@ impl<'a> Finished<'a> {
     pub fn label(&self, number: usize) -> &[Line]
         ensures { result.now ≡ (slice_index_or (filed_finished self.now) number no_entry).label }
     {
-        let entries = self.entries();
-        if number >= entries.len() {
-            return &[];
-        }
-        lines_from(
-            &self.lines[..],
-            entries[number].start,
-            entries[number].count,
-        )
+        self.entries()
+            .get(number)
+            .map_or(&[], |entry| entry.label_in(self.lines))
     }
 
     // Whether an entry and all its lines lie in the store.
     pub fn lies(&self, number: usize) -> bool
         ensures { Decides result (Lies self.now number) }
     {
-        number < self.used
-            && number < self.entries.len()
-            && ends_within(self.entries[number], self.lines.len())
+        let room = self.lines.len();
+        self.entries()
+            .get(number)
+            .is_some_and(|entry| entry.ends_within(room))
     }
 }

@@ -1,6 +1,6 @@
 use Rattle.std.proofs.Common.{rules}
 use Rattle.sheet.proofs.Appending.{appended_row}
-use Rattle.sheet.proofs.labels.append_first.Goals as goal
+use Rattle.sheet.proofs.slots.append_to_first.Goals as goal
 
 pub returns : goal.returns
 returns c =
