@@ -1,3 +1,6 @@
 pub mod Orders
+pub mod Searching
 pub mod Looking
 pub mod Meaning
+pub mod Following
+pub mod Strongest

@@ -1,21 +1,19 @@
 -- What the tests find, line by line, as the definitions state it.
-use Rattle.std.proofs.Common.{◌≡◌, ℕ, ◌<◌, ◌≤◌, Bool, ◌⊎◌, List, length, ℤ, ◌≤ℤ◌, ◌<ℤ◌, Decides, sym, refl, ap, ◌∙◌, subst, inl, inr, arith}
+use Rattle.std.proofs.Common.{◌≡◌, ℕ, Bool, List, ℤ, ◌≤ℤ◌, Decides, sym, refl, ap, ◌∙◌, subst, inl, inr, arith}
 use lib.Signed.{le_z}
-use Rattle.std.proofs.lemmas.List.{get_or_past}
 use Rattle.std.proofs.lemmas.Int.{ints}
-use Rattle.std.proofs.lemmas.Bool.{cases_lt}
 use Rattle.std.proofs.lemmas.Bool.Decides.{Decides-like}
 use Rattle.terms.specs.declared.concept.Concept.{Concept}
 use Rattle.terms.specs.declared.concept.Concept.TheVariants.{Heading, Constant, Not, Less, Lesser, Exists}
 use Rattle.terms.specs.declared.concept.Inclusion.{Inclusion}
 use Rattle.terms.specs.declared.line.Side.TheVariants.{AtLeast, AtMost}
 use Rattle.terms.specs.declared.line.Line.{Line}
-use Rattle.logic.specs.Books.{Book, StandsIn, concept_at}
-use Rattle.logic.specs.Lines.{line, line_at, AnyLine, EachLine, Carries}
+use Rattle.logic.specs.Books.{Book, concept_at}
+use Rattle.logic.specs.Lines.{line, line_at, EachLine, Carries}
 use Rattle.logic.specs.Conclusions.{Denies}
 use Rattle.logic.specs.Standing.{SmallestAtMost, GreatestAtLeast, LiesUnder, Serves}
 use Rattle.logic.proofs.LinesAgree.{leZ_agrees, reword}
-use Rattle.labels.specs.Passing.{Under, SomeDenier, DenialBy, DenialOf}
+use Rattle.labels.specs.Passing.{DenialBy, DenialOf}
 
 -- ---- inclusions
 -- two smallest bounds are one, and two greatest bounds
@@ -33,30 +31,6 @@ under_decides n lines i high low p q =
     let a = smallest_one n lines i.lower high u.high p u.smallest in
     let b = greatest_one lines i.upper u.low low u.greatest q in
     omega (arith, ints, a, b, u.under))
-
--- ---- denying
-module _ (b : Book) (label : List Line) (r : ℕ) (z : ℤ) (l : Line) where
-  denied_to : Under z l × SomeDenier b label r l → AnyLine (λ m. Denies b r z m l) label
-  denied_to (u, d) =
-      let h = d.2.stands in
-      (h.0, h.1, subst (λ m. Denies b r z m l) (sym h.2) (record { form = d.2.form; high = refl; under = u.under; side = u.high; bound = refl }))
-
-  -- what has the form stands in the book
-  form_stands : (c : ℕ) → concept_at b c ≡ Exists r l.concept → StandsIn b c
-  form_stands c e = go (cases_lt c (length b.concepts))
-    where
-      go : (c < length b.concepts) ⊎ (length b.concepts ≤ c) → StandsIn b c
-      go (inl h) = h
-      go (inr h) = absurd (let f = get_or_past b.concepts c (Constant 0) h in let z : ◌≡◌ {A = ℕ} 0 1 = cc in omega arith)
-
-  denied_from : AnyLine (λ m. Denies b r z m l) label → Under z l × SomeDenier b label r l
-  denied_from (k, w, d) =
-      let m = line_at label k in
-      let e : m ≡ line m.concept AtMost l.bound = λ i. record { concept = m.concept; side = d.high i; bound = sym d.bound i } in
-      (record { high = d.side; under = subst (λ y. y <ℤ z) (sym d.bound) d.under }, (m.concept, form_stands m.concept d.form, record { form = d.form; stands = (k, w, e) }))
-
-pub denied_decides : (b : Book) (label : List Line) (r : ℕ) (z : ℤ) (l : Line) (t : Bool) → Decides t (Under z l × SomeDenier b label r l) → Decides t (AnyLine (λ m. Denies b r z m l) label)
-denied_decides b label r z l t d = Decides-like t (denied_to b label r z l) (denied_from b label r z l) d
 
 -- ---- serving
 -- the label carries what the line m denies over r to z

@@ -1,62 +1,83 @@
--- The laws of the order of lines.
-use Rattle.std.proofs.Common.{◌≡◌, ℕ, zero, suc, ◌+◌, ◌-◌, ◌<◌, ◌≤◌, ◌⊎◌, List, length, ◌<ℤ◌, sym, ◌∙◌, subst, inl, inr, arith}
-use Rattle.std.proofs.lemmas.Int.{ints}
-use Rattle.std.proofs.lemmas.Bool.{cases_lt}
+-- The order of lines: what stands before is less, and so rising labels ascend.
+use Rattle.std.proofs.Common.{◌≡◌, ℕ, ◌+◌, ◌<◌, ◌⊎◌, List, length, ◌<ℤ◌, sym, refl, ap, ◌∙◌, subst, inl, inr, arith}
+use Rattle.std.specs.declared.cmp.Ordering.{Ordering}
+use Rattle.std.specs.declared.cmp.Ordering.TheVariants.{Less, Equal, Greater}
+use Rattle.std.specs.Ordering.{MatchOrdering, ordering_then, nat_cmp, int_cmp}
+use Rattle.std.specs.Cmp.{IsTotalOrder, ranks, nat_cmp_is, int_ranks, int_cmp_is}
+use Rattle.std.proofs.lemmas.Map.Keys.{sorted_from_all_adjacent, Less-from_sorted}
+use Rattle.row.specs.Order.{Ascending}
+use Rattle.row.proofs.Numbers.{nat_cmp_agrees}
 use Rattle.terms.specs.declared.line.Side.{Side}
 use Rattle.terms.specs.declared.line.Side.TheVariants.{AtLeast, AtMost}
 use Rattle.terms.specs.declared.line.Line.{Line}
-use Rattle.logic.specs.Lines.{line_at}
+use Rattle.terms.specs.Lines.{line_order, side_number}
+use Rattle.terms.proofs.LineOrderLaws.{line_order_total, line_order_transitive, line_order_agrees}
+use Rattle.logic.specs.Lines.{line_at, blank_line}
 use Rattle.logic.specs.Entries.{BeforeSide, Before, Rises}
 
-side_irrefl : (s : Side) → BeforeSide s s → ⊥
-side_irrefl AtLeast h = h
-side_irrefl AtMost h = h
+laws : IsTotalOrder line_order
+laws = record {
+  antisymm = line_order_total;
+  trans = line_order_transitive;
+  congr = λ l m n e. ap (λ x. line_order x n) ((line_order_agrees l m).0 e);
+}
 
-pub before_irrefl : (l : Line) → Before l l → ⊥
-before_irrefl l (inl h) = omega arith
-before_irrefl l (inr (e, inl h)) = side_irrefl l.side h
-before_irrefl l (inr (e, inr (s, h))) = omega (arith, ints, h)
+-- the order of sides and bounds, where the concepts are one
+abbrev then_order : Line → Line → Ordering
+then_order l m = ordering_then (nat_cmp (side_number l.side) (side_number m.side)) (int_cmp l.bound m.bound)
 
-side_chain : (s t u : Side) → BeforeSide s t → BeforeSide t u → BeforeSide s u
-side_chain AtLeast AtLeast u h k = absurd h
-side_chain AtLeast AtMost u h k = absurd k
-side_chain AtMost t u h k = absurd h
+abbrev ThenBefore : Line → Line → Type 0
+ThenBefore l m = BeforeSide l.side m.side ⊎ ((l.side ≡ m.side) × (l.bound <ℤ m.bound))
 
-abbrev ThenBound : Line → Line → Type 0
-ThenBound l m = BeforeSide l.side m.side ⊎ ((l.side ≡ m.side) × (l.bound <ℤ m.bound))
+-- ---- what stands before is less
+side_less : (s t : Side) → BeforeSide s t → nat_cmp (side_number s) (side_number t) ≡ Less
+side_less AtLeast AtLeast h = absurd h
+side_less AtLeast AtMost h = refl
+side_less AtMost t h = absurd h
 
-then_chain : (l m n : Line) → ThenBound l m → ThenBound m n → ThenBound l n
-then_chain l m n (inl h) (inl k) = inl (side_chain l.side m.side n.side h k)
-then_chain l m n (inl h) (inr (e, k)) = inl (subst (BeforeSide l.side) e h)
-then_chain l m n (inr (e, h)) (inl k) = inl (subst (λ s. BeforeSide s n.side) (sym e) k)
-then_chain l m n (inr (e, h)) (inr (f, k)) = inr (e ∙ f, omega (arith, ints, h, k))
+then_less : (l m : Line) → ThenBefore l m → then_order l m ≡ Less
+then_less l m (inl h) = ap (λ o. ordering_then o (int_cmp l.bound m.bound)) (side_less l.side m.side h)
+then_less l m (inr (e, h)) = ap (λ o. ordering_then o (int_cmp l.bound m.bound)) ((nat_cmp_agrees (side_number l.side) (side_number m.side)).1 (ap side_number e)) ∙ sym (int_cmp_is l.bound m.bound Less h)
 
-pub before_chain : (l m n : Line) → Before l m → Before m n → Before l n
-before_chain l m n (inl h) (inl k) = inl (omega arith)
-before_chain l m n (inl h) (inr (e, k)) = inl (omega arith)
-before_chain l m n (inr (e, h)) (inl k) = inl (omega arith)
-before_chain l m n (inr (e, h)) (inr (f, k)) = inr (e ∙ f, then_chain l m n h k)
+before_less : (l m : Line) → Before l m → line_order l m ≡ Less
+before_less l m (inl h) = ap (λ o. ordering_then o (then_order l m)) (sym (nat_cmp_is l.concept m.concept Less h))
+before_less l m (inr (e, h)) = ap (λ o. ordering_then o (then_order l m)) ((nat_cmp_agrees l.concept m.concept).1 e) ∙ then_less l m h
 
--- one line more
-pub rises_more : (lines : List Line) (k : ℕ) → 1 ≤ k → ((j : ℕ) → j + 1 < k → Before (line_at lines j) (line_at lines (j + 1))) → Before (line_at lines (k - 1)) (line_at lines k) → (j : ℕ) → j + 1 < k + 1 → Before (line_at lines j) (line_at lines (j + 1))
-rises_more lines k one up next j h = go (cases_lt (j + 1) k)
-  where
-    go : (j + 1 < k) ⊎ (k ≤ j + 1) → Before (line_at lines j) (line_at lines (j + 1))
-    go (inl a) = up j a
-    go (inr a) =
-        let e : k - 1 ≡ j = omega arith in
-        let f : k ≡ j + 1 = omega arith in
-        subst (λ n. Before (line_at lines j) (line_at lines n)) f (subst (λ n. Before (line_at lines n) (line_at lines k)) e next)
+-- ---- and what is less stands before
+by_first : (a b : Ordering) → ordering_then a b ≡ Less → (a ≡ Less) ⊎ ((a ≡ Equal) × (b ≡ Less))
+by_first Less b h = inl refl
+by_first Equal b h = inr (refl, h)
+by_first Greater b h = absurd (let z : ◌≡◌ {A = ℕ} 0 1 = cc in omega arith)
 
--- each line of a rising label stands before every later one
+less_side : (s t : Side) → nat_cmp (side_number s) (side_number t) ≡ Less → BeforeSide s t
+less_side AtLeast AtLeast h = absurd (let z : ◌≡◌ {A = ℕ} 0 1 = cc in omega arith)
+less_side AtLeast AtMost h = tt
+less_side AtMost AtLeast h = absurd (let z : ◌≡◌ {A = ℕ} 0 1 = cc in omega arith)
+less_side AtMost AtMost h = absurd (let z : ◌≡◌ {A = ℕ} 0 1 = cc in omega arith)
+
+same_side : (s t : Side) → side_number s ≡ side_number t → s ≡ t
+same_side AtLeast AtLeast h = refl
+same_side AtLeast AtMost h = absurd (omega arith)
+same_side AtMost AtLeast h = absurd (omega arith)
+same_side AtMost AtMost h = refl
+
+less_then : (l m : Line) → then_order l m ≡ Less → ThenBefore l m
+less_then l m h =
+    elim (by_first (nat_cmp (side_number l.side) (side_number m.side)) (int_cmp l.bound m.bound) h) [
+      | inl e ↦ inl (less_side l.side m.side e)
+      | inr p ↦ inr (same_side l.side m.side ((nat_cmp_agrees (side_number l.side) (side_number m.side)).0 p.0), subst (λ o. MatchOrdering o (l.bound <ℤ m.bound) (l.bound ≡ m.bound) (m.bound <ℤ l.bound)) p.1 (int_ranks l.bound m.bound))
+    ]
+
+less_before : (l m : Line) → line_order l m ≡ Less → Before l m
+less_before l m h =
+    elim (by_first (nat_cmp l.concept m.concept) (then_order l m) h) [
+      | inl e ↦ inl (subst (λ o. MatchOrdering o (l.concept < m.concept) (l.concept ≡ m.concept) (m.concept < l.concept)) e (ranks l.concept m.concept))
+      | inr p ↦ inr ((nat_cmp_agrees l.concept m.concept).0 p.0, less_then l m p.1)
+    ]
+
+-- ---- rising labels ascend, and each line stands before every later one
+pub rising_ascends : (lines : List Line) → Rises lines → Ascending line_order lines
+rising_ascends lines up i j d h w = Less-from_sorted line_order lines i j d (sorted_from_all_adjacent laws lines blank_line (λ k v. before_less (line_at lines k) (line_at lines (k + 1)) (up k v))) h w
+
 pub before_later : (lines : List Line) → Rises lines → (i j : ℕ) → i < j → j < length lines → Before (line_at lines i) (line_at lines j)
-before_later lines up i j h w = let e : i + suc (j - i - 1) ≡ j = omega arith in subst (λ n. Before (line_at lines i) (line_at lines n)) e (go (j - i - 1) (omega arith))
-  where
-    next : (n : ℕ) → i + suc (suc n) ≡ i + suc n + 1
-    next n = omega arith
-
-    go : (n : ℕ) → i + suc n < length lines → Before (line_at lines i) (line_at lines (i + suc n))
-    go zero g = let e : i + 1 ≡ i + suc zero = omega arith in subst (λ n. Before (line_at lines i) (line_at lines n)) e (up i (omega arith))
-    go (suc n) g =
-        subst (λ k. Before (line_at lines i) (line_at lines k)) (sym (next n))
-        (before_chain (line_at lines i) (line_at lines (i + suc n)) (line_at lines (i + suc n + 1)) (go n (omega arith)) (up (i + suc n) (omega arith)))
+before_later lines up i j h w = less_before (line_at lines i) (line_at lines j) (rising_ascends lines up i j blank_line h w)

@@ -1,4 +1,4 @@
-pub mod Ruled
-pub mod Claimed
 pub mod Lookup
+pub mod Labelled
+pub mod Following
 pub mod Passing

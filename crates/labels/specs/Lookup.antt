@@ -1,17 +1,22 @@
 -- The strongest line of a label on a concept and a side.
-use Rattle.std.specs.Prelude.{◌≡◌, ℕ, ◌<◌, ◌≤◌, ◌⊎◌, List, length, Some, None, Option}
+use Rattle.std.specs.Prelude.{Bool, cond, ◌==◌, ◌&&◌, ◌≡◌, ℕ, ◌<◌, ◌≤◌, ◌⊎◌, List, length, Some, None, Option}
 use Rattle.terms.specs.declared.line.Side.{Side}
 use Rattle.terms.specs.declared.line.Side.TheVariants.{AtLeast}
 use Rattle.terms.specs.declared.line.Line.{Line}
 use Rattle.logic.specs.Lines.{line_at, AsStrong}
-use Rattle.logic.specs.Entries.{Before}
-use Rattle.labels.specs.declared.lookup.Mark.{Mark}
-use Rattle.labels.specs.declared.lookup.Mark.TheVariants.{At, Turn}
+use Rattle.logic.specs.LineTests.{strong_test, same_side}
 
 -- The line m is on the concept c and the side s.
 pub record On (c : ℕ) (s : Side) (m : Line) : Type 0 where
   pub concept : m.concept ≡ c
   pub side : m.side ≡ s
+
+-- Whether a line is; and of two lines on one side, the stronger.
+abbrev pub on_test : ℕ → Side → Line → Bool
+on_test c s m = m.concept == c && same_side m.side s
+
+abbrev pub stronger_of : Line → Line → Line
+stronger_of n m = cond (strong_test m.side n.bound m.bound) n m
 
 -- r is that of n and m which asks at least as much as the other.
 abbrev pub Stronger : Line → Line → Line → Type 0
@@ -28,17 +33,17 @@ abbrev pub StrongestLine : List Line → ℕ → ℕ → Side → Option Line �
 StrongestLine lines i c s None = (k : ℕ) → k < i → ¬ On c s (line_at lines k)
 StrongestLine lines i c s (Some m) = Strongest lines i c s m
 
+-- The line at the place, if there is one and it is on c and s.
+abbrev pub LineOn : List Line → ℕ → ℕ → Side → Option Line → Type 0
+LineOn lines place c s None = place < length lines → ¬ On c s (line_at lines place)
+LineOn lines place c s (Some m) = (place < length lines) × (m ≡ line_at lines place) × On c s m
+
 -- The line m is on a lower concept than c, or on c and an at-least line.
 abbrev pub Lower : ℕ → Line → Type 0
 Lower c m = (m.concept < c) ⊎ ((m.concept ≡ c) × (m.side ≡ AtLeast))
 
--- The line m stands before the mark.
-abbrev pub Precedes : Mark → Line → Type 0
-Precedes (At l) m = Before m l
-Precedes (Turn c) m = Lower c m
-
--- The lines before the place r precede the mark, and those from there on do not.
-pub record Parted (lines : List Line) (mark : Mark) (r : ℕ) : Type 0 where
+-- The lines before the place r have P, and those from there on do not.
+pub record Parted (P : Line → Type 0) (lines : List Line) (r : ℕ) : Type 0 where
   pub within : r ≤ length lines
-  pub front : (k : ℕ) → k < r → Precedes mark (line_at lines k)
-  pub back : (k : ℕ) → r ≤ k → k < length lines → ¬ Precedes mark (line_at lines k)
+  pub front : (k : ℕ) → k < r → P (line_at lines k)
+  pub back : (k : ℕ) → r ≤ k → k < length lines → ¬ P (line_at lines k)

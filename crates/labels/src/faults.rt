@@ -3,32 +3,26 @@ ghost use Rattle.std.specs.Prelude.{Decides};
 ghost use Rattle.logic.specs.Books.{StandsIn};
 ghost use Rattle.logic.specs.Lines.{EachLine};
 ghost use Rattle.logic.specs.Entries.{InRange};
-ghost use Rattle.labels.specs.Ruled.{ruled};
 
+use crate::label::Label;
 use crate::rules::Rules;
 use logic::lines::in_range;
 use terms::line::Line;
 
-// Whether every line's bound is -1 to 4,000.
-pub fn bounds_in_range(lines: &[Line]) -> bool
-    ensures { Decides result (EachLine (λ l. InRange l.bound) lines.now) }
-{
-    for l in lines {
-        if !in_range(*l) {
-            return false;
-        }
+impl<'a> Label<'a> {
+    // Whether every line's bound is -1 to 4,000.
+    pub fn bounds_in_range(&self) -> bool
+        ensures { Decides result (EachLine (λ l. InRange l.bound) self.now) }
+    {
+        self.lines().iter().all(|l| in_range(*l))
     }
-    true
 }
 
-// Whether every line's concept stands in the book.
-pub fn concepts_stand(rules: Rules<'_>, lines: &[Line]) -> bool
-    ensures { Decides result (EachLine (λ l. StandsIn (ruled rules.entry) l.concept) lines.now) }
-{
-    for l in lines {
-        if l.concept >= rules.concepts.len() {
-            return false;
-        }
+impl<'a> Rules<'a> {
+    // Whether every line's concept stands in the book.
+    pub fn concepts_stand(&self, lines: &[Line]) -> bool
+        ensures { Decides result (EachLine (λ l. StandsIn self.now l.concept) lines.now) }
+    {
+        lines.iter().all(|l| self.stands(l.concept))
     }
-    true
 }

@@ -4,14 +4,14 @@
 
 pub mod adding;
 pub mod carrying;
-pub mod claim;
 pub mod clashing;
 pub mod conclusions;
 pub mod faults;
 pub mod inclusions;
 pub mod label;
-pub mod lookup;
-pub mod order;
 pub mod passing;
+mod rising;
+pub mod ruled;
 pub mod rules;
+mod scanning;
 pub mod serving;

@@ -1,17 +1,13 @@
 // What a line 'some r that is c at least z' passes on to another individual.
 ghost use Rattle.std.specs.Prelude.{◌≡◌, Decides};
-ghost use Rattle.terms.specs.declared.concept.Concept.TheVariants.{Exists};
 ghost use Rattle.terms.specs.declared.line.Side.TheVariants.{AtLeast};
 ghost use Rattle.logic.specs.Lines.{line, AnyLine, EachLine};
 ghost use Rattle.logic.specs.Conclusions.{Denies, Passes};
-ghost use Rattle.labels.specs.Ruled.{ruled};
-ghost use Rattle.labels.specs.Claimed.{claimed};
 ghost use Rattle.labels.specs.Passing.{Under, Denier, SomeDenier, Reaching};
 
-use crate::claim::{Claim, is_claim};
-use crate::label::Label;
-use crate::lookup::has_line;
-use crate::rules::{Rules, concept_at};
+use crate::ruled::Ruled;
+use crate::rules::Rules;
+use logic::claim::Claim;
 use terms::concept::Concept;
 use terms::line::{Line, Side};
 
@@ -23,106 +19,78 @@ pub struct Reach {
     pub bound: i32,
 }
 
-// What a line reaches, if it is 'some r that is c at least z' with z at least 1.
-pub fn reach_of(rules: Rules<'_>, l: Line) -> Option<Reach>
-    ensures { Reaching (ruled rules.entry) l result }
-{
-    match (concept_at(rules, l.concept), l.side) {
-        (Concept::Exists(role, part), Side::AtLeast) => {
-            if l.bound < 1 {
-                return None;
-            }
-            Some(Reach {
+impl Reach {
+    // What is reached: 'part at least bound'.
+    pub fn claim(self) -> Claim
+        ensures { result ≡ line self.part AtLeast self.bound }
+    {
+        Claim::at_least(self.part, self.bound as i64)
+    }
+
+    // Whether the line says at most less than the bound.
+    pub(crate) fn is_above(self, m: Line) -> bool
+        ensures { Decides result (Under self.bound m) }
+    {
+        m.side == Side::AtMost && m.bound < self.bound
+    }
+}
+
+impl<'a> Rules<'a> {
+    // What a line reaches, if it is 'some r that is c at least z' with z at least 1.
+    pub fn reach(&self, l: Line) -> Option<Reach>
+        ensures { Reaching self.now l result }
+    {
+        match (self.concept(l.concept), l.side) {
+            (Concept::Exists(role, part), Side::AtLeast) if 1 <= l.bound => Some(Reach {
                 role,
                 part,
                 bound: l.bound,
-            })
-        }
-        _ => None,
-    }
-}
-
-fn is_exists(form: Concept, role: usize, part: usize) -> bool
-    ensures { Decides result (form ≡ Exists role part) }
-{
-    match form {
-        Concept::Exists(r, c) => r == role && c == part,
-        _ => false,
-    }
-}
-
-// Whether the line says at most less than the bound.
-pub(crate) fn is_under(z: Reach, m: Line) -> bool
-    ensures { Decides result (Under z.bound m) }
-{
-    match m.side {
-        Side::AtLeast => false,
-        Side::AtMost => m.bound < z.bound,
-    }
-}
-
-// Whether the label has a line on the concept c that denies just what the line l says.
-fn denies(rules: Rules<'_>, label: Label<'_>, z: Reach, c: usize, l: Line) -> bool
-    ensures { Decides result (Denier (ruled rules.entry) label.entry.lines.now z.role l c) }
-{
-    let m = Line {
-        concept: c,
-        side: Side::AtMost,
-        bound: l.bound,
-    };
-    is_exists(concept_at(rules, c), z.role, l.concept) && has_line(label, m)
-}
-
-fn denied_by_some(rules: Rules<'_>, label: Label<'_>, z: Reach, l: Line) -> bool
-    ensures { Decides result (SomeDenier (ruled rules.entry) label.entry.lines.now z.role l) }
-{
-    for c in 0..rules.concepts.len() {
-        if denies(rules, label, z, c, l) {
-            return true;
+            }),
+            _ => None,
         }
     }
-    false
 }
 
-fn denied_by_concept(rules: Rules<'_>, label: Label<'_>, z: Reach, l: Line) -> bool
-    ensures { Decides result (Under z.bound l × SomeDenier (ruled rules.entry) label.entry.lines.now z.role l) }
-{
-    is_under(z, l) && denied_by_some(rules, label, z, l)
-}
-
-// Whether the line l is what a line of the label denies where the role leads to the bound.
-pub fn denied(rules: Rules<'_>, label: Label<'_>, z: Reach, l: Line) -> bool
-    ensures { Decides result (AnyLine (λ m. Denies (ruled rules.entry) z.role z.bound m l) label.entry.lines.now) }
-{
-    denied_by_concept(rules, label, z, l)
-}
-
-// What is reached: 'part at least bound'.
-pub(crate) fn reached(z: Reach) -> Claim
-    ensures { claimed result ≡ line z.part AtLeast z.bound }
-{
-    Claim {
-        concept: z.part,
-        side: Side::AtLeast,
-        bound: z.bound as i64,
+impl<'a> Ruled<'a> {
+    // Whether the label has a line on the concept c that denies just what the line l says.
+    fn denies(&self, z: Reach, c: usize, l: Line) -> bool
+        ensures { Decides result (Denier self.now.rules.now self.now.label.now z.role l c) }
+    {
+        self.rules.concept(c) == Concept::Exists(z.role, l.concept)
+            && self.label.has(Line::at_most(c, l.bound))
     }
-}
 
-// Whether the line is passed on.
-pub fn passes(rules: Rules<'_>, label: Label<'_>, z: Reach, l: Line) -> bool
-    ensures { Decides result (Passes (ruled rules.entry) label.entry.lines.now z.role z.part z.bound l) }
-{
-    is_claim(l, reached(z)) || denied(rules, label, z, l)
-}
-
-// Whether each line of the child is passed on.
-pub fn passes_all(rules: Rules<'_>, label: Label<'_>, z: Reach, child: &[Line]) -> bool
-    ensures { Decides result (EachLine (Passes (ruled rules.entry) label.entry.lines.now z.role z.part z.bound) child.now) }
-{
-    for l in child {
-        if !passes(rules, label, z, *l) {
-            return false;
-        }
+    // Whether it has one on some concept.
+    fn some_denies(&self, z: Reach, l: Line) -> bool
+        ensures { Decides result (SomeDenier self.now.rules.now self.now.label.now z.role l) }
+    {
+        (0..self.rules.concepts().len()).any(|c| self.denies(z, c, l))
     }
-    true
+
+    fn denied_by_concept(&self, z: Reach, l: Line) -> bool
+        ensures { Decides result (Under z.bound l × SomeDenier self.now.rules.now self.now.label.now z.role l) }
+    {
+        z.is_above(l) && self.some_denies(z, l)
+    }
+
+    // Whether the line l is what a line of the label denies where the role leads to the bound.
+    pub fn denied(&self, z: Reach, l: Line) -> bool
+        ensures { Decides result (AnyLine (λ m. Denies self.now.rules.now z.role z.bound m l) self.now.label.now) }
+    {
+        self.denied_by_concept(z, l)
+    }
+
+    // Whether the line is passed on.
+    pub fn passes(&self, z: Reach, l: Line) -> bool
+        ensures { Decides result (Passes self.now.rules.now self.now.label.now z.role z.part z.bound l) }
+    {
+        z.claim().is(l) || self.denied(z, l)
+    }
+
+    // Whether each line of the child is passed on.
+    pub fn passes_all(&self, z: Reach, child: &[Line]) -> bool
+        ensures { Decides result (EachLine (Passes self.now.rules.now self.now.label.now z.role z.part z.bound) child.now) }
+    {
+        child.iter().all(|l| self.passes(z, *l))
+    }
 }

@@ -1,39 +1,75 @@
 // A book as the tests read it.
-ghost use Rattle.std.specs.Prelude.{◌≡◌};
-ghost use Rattle.logic.specs.Books.{concept_at, inclusion_at};
-ghost use Rattle.labels.specs.Ruled.{ruled};
+ghost use Rattle.std.specs.Prelude.{◌≡◌, Decides};
+ghost use Rattle.logic.specs.Books.{StandsIn, concept_at, inclusion_at};
 
+use std::marker::Model;
 use terms::concept::{Concept, Inclusion};
 
-#[derive(Clone, Copy)]
+// The fineness, concepts and inclusions of a book. Contracts see the book.
+#[derive(Clone, Drop)]
 pub struct Rules<'a> {
-    pub fineness: u32,
-    pub concepts: &'a [Concept],
-    pub inclusions: &'a [Inclusion],
+    fineness: u32,
+    concepts: &'a [Concept],
+    inclusions: &'a [Inclusion],
 }
 
-// The concept of a number; past the last, the degree 0.
-pub fn concept_at(rules: Rules<'_>, c: usize) -> Concept
-    ensures { result ≡ concept_at (ruled rules.entry) c }
-{
-    if c < rules.concepts.len() {
-        rules.concepts[c]
-    } else {
-        Concept::Constant(0)
-    }
+impl<'a> Model for Rules<'a> {
+    ghost use Rattle.logic.specs.Books.{Book};
+
+    ghost Value = { Book };
+
+    ghost view = { λ r. record { fineness = r.fineness; concepts = r.concepts.now; inclusions = r.inclusions.now } };
 }
 
-// The inclusion of a number.
-pub fn inclusion_at(rules: Rules<'_>, i: usize) -> Inclusion
-    ensures { result ≡ inclusion_at (ruled rules.entry) i }
-{
-    if i < rules.inclusions.len() {
-        rules.inclusions[i]
-    } else {
-        Inclusion {
-            lower: 0,
-            upper: 0,
-            struck: false,
+impl<'a> Rules<'a> {
+    pub fn new(fineness: u32, concepts: &'a [Concept], inclusions: &'a [Inclusion]) -> Rules<'a>
+        ensures { result ≡ record { fineness = fineness; concepts = concepts.now; inclusions = inclusions.now } }
+    {
+        Rules {
+            fineness,
+            concepts,
+            inclusions,
         }
+    }
+
+    pub fn fineness(&self) -> u32
+        ensures { result ≡ self.now.fineness }
+    {
+        self.fineness
+    }
+
+    pub fn concepts(&self) -> &[Concept]
+        ensures { result.now ≡ self.now.concepts }
+    {
+        self.concepts
+    }
+
+    pub fn inclusions(&self) -> &[Inclusion]
+        ensures { result.now ≡ self.now.inclusions }
+    {
+        self.inclusions
+    }
+
+    // The concept of a number; past the last, the degree 0.
+    pub fn concept(&self, c: usize) -> Concept
+        ensures { result ≡ concept_at self.now c }
+    {
+        let found = self.concepts.get(c);
+        found.copied().unwrap_or(Concept::Constant(0))
+    }
+
+    // The inclusion of a number.
+    pub fn inclusion(&self, i: usize) -> Inclusion
+        ensures { result ≡ inclusion_at self.now i }
+    {
+        let found = self.inclusions.get(i);
+        found.copied().unwrap_or_default()
+    }
+
+    // Whether the number is that of a concept.
+    pub fn stands(&self, c: usize) -> bool
+        ensures { Decides result (StandsIn self.now c) }
+    {
+        c < self.concepts().len()
     }
 }

@@ -3,60 +3,50 @@ ghost use Rattle.std.specs.Prelude.{Decides};
 ghost use Rattle.terms.specs.declared.line.Side.TheVariants.{AtLeast};
 ghost use Rattle.logic.specs.Lines.{line, EachLine, Carries};
 ghost use Rattle.logic.specs.Standing.{Serves};
-ghost use Rattle.labels.specs.Ruled.{ruled};
 ghost use Rattle.labels.specs.Passing.{DenialBy, DenialOf};
 
-use crate::carrying::carries;
-use crate::claim::at_most;
-use crate::label::Label;
-use crate::passing::{Reach, is_under, reached};
-use crate::rules::{Rules, concept_at};
+use crate::passing::Reach;
+use crate::ruled::Ruled;
+use logic::claim::Claim;
 use terms::concept::Concept;
 use terms::line::Line;
 
-// Whether the label carries what the line m, on a concept of the form given, denies.
-fn carries_denied_by(fineness: u32, label: Label<'_>, z: Reach, form: Concept, m: Line) -> bool
-    ensures { Decides result (DenialBy fineness z.role z.bound label.entry.lines.now form m) }
-{
-    match form {
-        Concept::Exists(role, part) => {
-            if role == z.role && is_under(z, m) {
-                carries(fineness, label, at_most(part, m))
-            } else {
-                true
-            }
-        }
-        _ => true,
-    }
-}
-
-fn carries_denied(rules: Rules<'_>, label: Label<'_>, z: Reach, m: Line) -> bool
-    ensures { Decides result (DenialOf (ruled rules.entry) z.role z.bound label.entry.lines.now m) }
-{
-    carries_denied_by(rules.fineness, label, z, concept_at(rules, m.concept), m)
-}
-
-fn carries_all_denied(rules: Rules<'_>, from: &[Line], z: Reach, label: Label<'_>) -> bool
-    ensures { Decides result (EachLine (DenialOf (ruled rules.entry) z.role z.bound label.entry.lines.now) from.now) }
-{
-    for m in from {
-        if !carries_denied(rules, label, z, *m) {
-            return false;
+impl<'a> Ruled<'a> {
+    // Whether the label carries what the line m, on a concept of the form given, denies.
+    fn carries_denied_by(&self, z: Reach, form: Concept, m: Line) -> bool
+        ensures { Decides result (DenialBy self.now.rules.now.fineness z.role z.bound self.now.label.now form m) }
+    {
+        match form {
+            Concept::Exists(role, part) if role == z.role && z.is_above(m) => self.carries(
+                Claim::at_most(part, m.bound as i64),
+            ),
+            _ => true,
         }
     }
-    true
-}
 
-// Both parts of serving: what is reached, and what is denied there.
-fn serves_by_line(rules: Rules<'_>, from: &[Line], z: Reach, label: Label<'_>) -> bool
-    ensures { Decides result (Carries rules.entry.fineness label.entry.lines.now (line z.part AtLeast z.bound) × EachLine (DenialOf (ruled rules.entry) z.role z.bound label.entry.lines.now) from.now) }
-{
-    carries(rules.fineness, label, reached(z)) && carries_all_denied(rules, from, z, label)
-}
+    fn carries_denied(&self, z: Reach, m: Line) -> bool
+        ensures { Decides result (DenialOf self.now.rules.now z.role z.bound self.now.label.now m) }
+    {
+        self.carries_denied_by(z, self.rules.concept(m.concept), m)
+    }
 
-// Whether the label carries all that is passed on from the label `from`.
-pub fn serves(rules: Rules<'_>, from: &[Line], z: Reach, label: Label<'_>) -> bool
-    ensures { Decides result (Serves (ruled rules.entry) from.now z.role z.part z.bound label.entry.lines.now) }
-{
-    serves_by_line(rules, from, z, label)
+    fn carries_all_denied(&self, from: &[Line], z: Reach) -> bool
+        ensures { Decides result (EachLine (DenialOf self.now.rules.now z.role z.bound self.now.label.now) from.now) }
+    {
+        from.iter().all(|m| self.carries_denied(z, *m))
+    }
+
+    // Both parts of serving: what is reached, and what is denied there.
+    fn serves_by_line(&self, from: &[Line], z: Reach) -> bool
+        ensures { Decides result (Carries self.now.rules.now.fineness self.now.label.now (line z.part AtLeast z.bound) × EachLine (DenialOf self.now.rules.now z.role z.bound self.now.label.now) from.now) }
+    {
+        self.carries(z.claim()) && self.carries_all_denied(from, z)
+    }
+
+    // Whether the label carries all that is passed on from the label `from`.
+    pub fn serves(&self, from: &[Line], z: Reach) -> bool
+        ensures { Decides result (Serves self.now.rules.now from.now z.role z.part z.bound self.now.label.now) }
+    {
+        self.serves_by_line(from, z)
+    }
 }

@@ -138,7 +138,7 @@ pub idle_agrees : (n : ℕ) (s : Side) (z : ℤ) → Decides (idle_test n s z) (
 idle_agrees n AtLeast z = leZ_agrees z (pos 0)
 idle_agrees n AtMost z = leZ_agrees (pos (2 * n)) z
 
-strong_agrees : (s : Side) (y z : ℤ) → Decides (strong_test s y z) (AsStrong s y z)
+pub strong_agrees : (s : Side) (y z : ℤ) → Decides (strong_test s y z) (AsStrong s y z)
 strong_agrees AtLeast y z = leZ_agrees z y
 strong_agrees AtMost y z = leZ_agrees y z
 

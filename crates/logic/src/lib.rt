@@ -2,5 +2,6 @@
 // specs/ has the definitions and the theorems, proofs/ their proofs, and src/ the theorems as contracts and a few functions on lines.
 #![tactic(auto)]
 
+pub mod claim;
 pub mod lines;
 pub mod theorems;

@@ -4,8 +4,9 @@ ghost use Rattle.logic.specs.Lines.{other, half_line, Covers};
 ghost use Rattle.logic.specs.Clashes.{Beyond, Crosses};
 ghost use Rattle.logic.specs.Entries.{Before, InRange};
 
+use crate::claim::Claim;
 use terms::line::{Line, Side};
-use terms::question::{Comparison, QuestionLine};
+use terms::question::QuestionLine;
 
 // The greatest fineness that a book can have, and so the greatest degree that a question can ask for.
 const GREATEST_FINENESS: u32 = 1000;
@@ -26,51 +27,28 @@ pub fn half_line(asked: QuestionLine) -> Option<Line>
     if asked.degree > GREATEST_FINENESS {
         return None;
     }
-    let twice = 2 * (asked.degree as i32);
-    let (side, bound) = match asked.comparison {
-        Comparison::NotBelow => (Side::AtLeast, twice),
-        Comparison::Above => (Side::AtLeast, twice + 1),
-        Comparison::NotAbove => (Side::AtMost, twice),
-        Comparison::Under => (Side::AtMost, twice - 1),
-    };
-    Some(Line {
-        concept: asked.concept,
-        side,
-        bound,
-    })
+    Line::try_from(Claim::from(asked)).ok()
 }
 
 // Whether a label may have the line's bound: -1 to 4,000.
 pub fn in_range(l: Line) -> bool
     ensures { Decides result (InRange l.bound) }
 {
-    -1 <= l.bound && l.bound <= 4000
+    !l.is_out_of_range()
 }
 
 // Whether the line l stands before m in a label.
 pub fn before(l: Line, m: Line) -> bool
     ensures { Decides result (Before l m) }
 {
-    if l.concept != m.concept {
-        return l.concept < m.concept;
-    }
-    match (l.side, m.side) {
-        (Side::AtLeast, Side::AtMost) => true,
-        (Side::AtMost, Side::AtLeast) => false,
-        _ => l.bound < m.bound,
-    }
+    l < m
 }
 
 // Whether the line m is on the same concept and side as l, and at least as strong.
 pub fn covers(m: Line, l: Line) -> bool
     ensures { Decides result (Covers m l) }
 {
-    m.concept == l.concept
-        && match (m.side, l.side) {
-            (Side::AtLeast, Side::AtLeast) => l.bound <= m.bound,
-            (Side::AtMost, Side::AtMost) => m.bound <= l.bound,
-            _ => false,
-        }
+    m.concept == l.concept && m.side == l.side && Claim::from(l).is_met_by(m)
 }
 
 // Whether the line clashes by its range: no degree of a book of the fineness keeps it.
@@ -87,9 +65,5 @@ pub fn beyond(fineness: u32, l: Line) -> bool
 pub fn crosses(l: Line, m: Line) -> bool
     ensures { Decides result (Crosses l m) }
 {
-    l.concept == m.concept
-        && match (l.side, m.side) {
-            (Side::AtLeast, Side::AtMost) => m.bound < l.bound,
-            _ => false,
-        }
+    l.concept == m.concept && l.side == Side::AtLeast && m.side == Side::AtMost && m.bound < l.bound
 }
