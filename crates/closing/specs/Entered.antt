@@ -1,8 +1,7 @@
--- An entry made of its parts.
-use Rattle.std.specs.Prelude.{Bool, List}
-use Rattle.terms.specs.declared.line.Line.{Line}
-use Rattle.terms.specs.declared.entry.Head.{Head}
+-- An entry as it was read.
 use Rattle.logic.specs.Entries.{Entry}
+use Rattle.closing.specs.declared.entry.EntryRead.{EntryRead}
 
-abbrev pub entered : Head → Bool → List Line → Entry
-entered head lies label = record { head = head; lies = lies; label = label }
+-- The theory's entry of which head, label and whether it lies in the store were read.
+abbrev pub entry_read : EntryRead → Entry
+entry_read e = record { head = e.head; lies = e.lies; label = e.label }

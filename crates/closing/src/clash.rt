@@ -1,17 +1,14 @@
 // Z: the label clashes.
 ghost use Rattle.std.specs.Prelude.{Decides};
 ghost use Rattle.logic.specs.Closing.{ClashRule};
-ghost use Rattle.labels.specs.Ruled.{ruled};
 
-use crate::fields::bare;
-use labels::clashing::clashes;
-use labels::label::Label;
-use labels::rules::Rules;
-use terms::entry::Head;
+use crate::entry::{ClosingEntry, bare};
 
-// Whether the label clashes, and the entry uses no field.
-pub fn clash_rule(rules: Rules<'_>, head: Head, label: Label<'_>) -> bool
-    ensures { Decides result (ClashRule (ruled rules.entry) head label.entry.lines.now) }
-{
-    clashes(rules, label) && bare(head)
+impl<'a> ClosingEntry<'a> {
+    // Whether the label clashes, and the entry uses no field.
+    pub fn clash_rule(&self) -> bool
+        ensures { Decides result (ClashRule self.now.ruled.rules.now self.now.head self.now.ruled.label.now) }
+    {
+        self.ruled.clashes() && bare(self.head)
+    }
 }

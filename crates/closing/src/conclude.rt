@@ -1,54 +1,39 @@
 // N, S and, at least, M: one child adds the conclusions of a line.
 ghost use Rattle.std.specs.Prelude.{Decides};
-ghost use Rattle.logic.specs.Conclusions.{conclusions_of, Among};
-ghost use Rattle.logic.specs.Closing.{placed, Adds, Concludes, NotRule, LessRule};
-ghost use Rattle.labels.specs.Ruled.{ruled};
-ghost use Rattle.closing.specs.Formed.{Formed};
+ghost use Rattle.logic.specs.Closing.{Concludes, IsLesser, NotRule, LessRule};
 
-use crate::fields::{no_inclusion, one_child};
-use crate::forms::{Form, has_form};
-use crate::placed::{has_place, placed, placed_form};
-use labels::adding::adds_conclusions;
-use labels::label::Label;
-use labels::rules::Rules;
-use terms::entry::Head;
-use terms::line::Line;
+use crate::entry::ClosingEntry;
+use crate::forms::{is_less, is_lesser, is_not};
 
-// Whether the child adds the conclusions of the line at the place.
-fn adds_placed(rules: Rules<'_>, head: Head, label: Label<'_>, child: &[Line]) -> bool
-    ensures { Decides result (Adds label.entry.lines.now (Among (conclusions_of (ruled rules.entry) (placed head label.entry.lines.now))) child.now) }
-{
-    adds_conclusions(rules, label, placed(head, label.lines), child)
-}
+impl<'a> ClosingEntry<'a> {
+    // Whether a line stands at the place, and the one child adds its conclusions, whatever the form of its concept.
+    fn concludes(&self) -> bool
+        ensures { Decides result (Concludes (λ _. Unit {0}) self.now.ruled.rules.now self.now.number self.now.head self.now.ruled.label.now self.now.first.now) }
+    {
+        let Some(line) = self.line_at_place() else {
+            return false;
+        };
+        self.one_child() && self.no_inclusion() && self.ruled.adds_conclusions(line, self.first)
+    }
 
-// Whether the line at the place is on a concept of the form, and the one child adds its conclusions.
-pub fn concludes(
-    rules: Rules<'_>,
-    form: Form,
-    k: usize,
-    head: Head,
-    label: Label<'_>,
-    child: &[Line],
-) -> bool
-    ensures { Decides result (Concludes (Formed form) (ruled rules.entry) k head label.entry.lines.now child.now) }
-{
-    has_place(head, label.lines)
-        && has_form(form, placed_form(rules, head, label.lines))
-        && one_child(k, head)
-        && no_inclusion(head)
-        && adds_placed(rules, head, label, child)
-}
+    // N: whether the one child adds the conclusion of a line on 'not c'.
+    pub fn not_rule(&self) -> bool
+        ensures { Decides result (NotRule self.now.ruled.rules.now self.now.number self.now.head self.now.ruled.label.now self.now.first.now) }
+    {
+        self.form_at_place().is_some_and(is_not) && self.concludes()
+    }
 
-// N: whether the one child adds the conclusion of a line on 'not c'.
-pub fn not_rule(rules: Rules<'_>, k: usize, head: Head, label: Label<'_>, child: &[Line]) -> bool
-    ensures { Decides result (NotRule (ruled rules.entry) k head label.entry.lines.now child.now) }
-{
-    concludes(rules, Form::Not, k, head, label, child)
-}
+    // S: whether the one child adds the conclusion of a line on 'c less k'.
+    pub fn less_rule(&self) -> bool
+        ensures { Decides result (LessRule self.now.ruled.rules.now self.now.number self.now.head self.now.ruled.label.now self.now.first.now) }
+    {
+        self.form_at_place().is_some_and(is_less) && self.concludes()
+    }
 
-// S: whether the one child adds the conclusion of a line on 'c less k'.
-pub fn less_rule(rules: Rules<'_>, k: usize, head: Head, label: Label<'_>, child: &[Line]) -> bool
-    ensures { Decides result (LessRule (ruled rules.entry) k head label.entry.lines.now child.now) }
-{
-    concludes(rules, Form::Less, k, head, label, child)
+    // M, at least: whether the one child adds both conclusions of a line on 'the lesser of c and d'.
+    pub fn lesser_at_least(&self) -> bool
+        ensures { Decides result (Concludes IsLesser self.now.ruled.rules.now self.now.number self.now.head self.now.ruled.label.now self.now.first.now) }
+    {
+        self.form_at_place().is_some_and(is_lesser) && self.concludes()
+    }
 }

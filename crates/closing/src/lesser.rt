@@ -1,67 +1,49 @@
 // M: by a line on 'the lesser of c and d'.
 ghost use Rattle.std.specs.Prelude.{Decides};
+ghost use Rattle.logic.specs.Books.{concept_at};
 ghost use Rattle.logic.specs.Closing.{Splits, LesserAtMost, LesserRule};
-ghost use Rattle.labels.specs.Ruled.{ruled};
 
-use crate::conclude::concludes;
-use crate::fields::{no_inclusion, two_children};
-use crate::forms::Form;
-use crate::placed::{has_place, placed, placed_form};
-use labels::adding::adds_claim;
-use labels::claim::at_most;
-use labels::label::Label;
-use labels::rules::Rules;
+use crate::entry::ClosingEntry;
+use logic::claim::Claim;
 use terms::concept::Concept;
-use terms::entry::Head;
 use terms::line::{Line, Side};
 
-// Of the line l on 'the lesser of c and d at most z', whether the first child adds 'c at most z' and the second 'd at most z'.
-fn splits(label: Label<'_>, form: Concept, l: Line, first: &[Line], second: &[Line]) -> bool
-    ensures { Decides result (Splits form l.bound label.entry.lines.now first.now second.now) }
-{
-    match form {
-        Concept::Lesser(c, d) => adds_claim(label, at_most(c, l), first)
-            && adds_claim(label, at_most(d, l), second),
-        _ => false,
+impl<'a> ClosingEntry<'a> {
+    // Of the line l on 'the lesser of c and d at most z', whether the first child adds 'c at most z' and the second 'd at most z'.
+    fn splits(&self, l: Line) -> bool
+        ensures { Decides result (Splits (concept_at self.now.ruled.rules.now l.concept) l.bound self.now.ruled.label.now self.now.first.now self.now.second.now) }
+    {
+        let bound = l.bound as i64;
+        let label = self.ruled.label;
+        match self.ruled.rules.concept(l.concept) {
+            Concept::Lesser(c, d) => {
+                label.adds(Claim::at_most(c, bound), self.first)
+                    && label.adds(Claim::at_most(d, bound), self.second)
+            }
+            _ => false,
+        }
     }
-}
 
-// At most: whether two children divide the line at the place.
-fn lesser_at_most(
-    rules: Rules<'_>,
-    k: usize,
-    head: Head,
-    label: Label<'_>,
-    first: &[Line],
-    second: &[Line],
-) -> bool
-    ensures { Decides result (LesserAtMost (ruled rules.entry) k head label.entry.lines.now first.now second.now) }
-{
-    has_place(head, label.lines)
-        && two_children(k, head)
-        && no_inclusion(head)
-        && splits(
-            label,
-            placed_form(rules, head, label.lines),
-            placed(head, label.lines),
-            first,
-            second,
-        )
-}
+    // At most: whether two children divide the line at the place.
+    pub fn lesser_at_most(&self) -> bool
+        ensures { Decides result (LesserAtMost self.now.ruled.rules.now self.now.number self.now.head self.now.ruled.label.now self.now.first.now self.now.second.now) }
+    {
+        let Some(line) = self.line_at_place() else {
+            return false;
+        };
+        self.two_children() && self.no_inclusion() && self.splits(line)
+    }
 
-// M: whether one child adds both conclusions of an at-least line, or two children divide an at-most line.
-pub fn lesser_rule(
-    rules: Rules<'_>,
-    k: usize,
-    head: Head,
-    label: Label<'_>,
-    first: &[Line],
-    second: &[Line],
-) -> bool
-    ensures { Decides result (LesserRule (ruled rules.entry) k head label.entry.lines.now first.now second.now) }
-{
-    match placed(head, label.lines).side {
-        Side::AtLeast => concludes(rules, Form::Lesser, k, head, label, first),
-        Side::AtMost => lesser_at_most(rules, k, head, label, first, second),
+    // M: whether one child adds both conclusions of an at-least line, or two children divide an at-most line.
+    pub fn lesser_rule(&self) -> bool
+        ensures { Decides result (LesserRule self.now.ruled.rules.now self.now.number self.now.head self.now.ruled.label.now self.now.first.now self.now.second.now) }
+    {
+        let Some(line) = self.line_at_place() else {
+            return false;
+        };
+        match line.side {
+            Side::AtLeast => self.lesser_at_least(),
+            Side::AtMost => self.lesser_at_most(),
+        }
     }
 }

@@ -1,36 +1,23 @@
 // The rule of an entry's letter.
 ghost use Rattle.std.specs.Prelude.{Decides};
 ghost use Rattle.logic.specs.Closing.{Rule};
-ghost use Rattle.labels.specs.Ruled.{ruled};
 
-use crate::clash::clash_rule;
-use crate::conclude::{less_rule, not_rule};
-use crate::cut::inclusion_rule;
-use crate::exists::exists_rule;
-use crate::lesser::lesser_rule;
-use labels::label::Label;
-use labels::rules::Rules;
-use terms::entry::{Head, Letter};
-use terms::line::Line;
+use crate::entry::ClosingEntry;
+use terms::entry::Letter;
 
-// Whether the entry k keeps the rule of its letter, where `first` and `second` are the labels of the children that it names. L has none in a closing sheet.
-pub fn keeps_rule(
-    rules: Rules<'_>,
-    k: usize,
-    head: Head,
-    label: Label<'_>,
-    first: &[Line],
-    second: &[Line],
-) -> bool
-    ensures { Decides result (Rule head.letter (ruled rules.entry) k head label.entry.lines.now first.now second.now) }
-{
-    match head.letter {
-        Letter::Z => clash_rule(rules, head, label),
-        Letter::N => not_rule(rules, k, head, label, first),
-        Letter::S => less_rule(rules, k, head, label, first),
-        Letter::M => lesser_rule(rules, k, head, label, first, second),
-        Letter::I => inclusion_rule(rules, k, head, label, first, second),
-        Letter::E => exists_rule(rules, k, head, label, first),
-        Letter::L => false,
+impl<'a> ClosingEntry<'a> {
+    // Whether the entry keeps the rule of its letter. L has none in a closing sheet.
+    pub fn keeps_rule(&self) -> bool
+        ensures { Decides result (Rule self.now.head.letter self.now.ruled.rules.now self.now.number self.now.head self.now.ruled.label.now self.now.first.now self.now.second.now) }
+    {
+        match self.head.letter {
+            Letter::Z => self.clash_rule(),
+            Letter::N => self.not_rule(),
+            Letter::S => self.less_rule(),
+            Letter::M => self.lesser_rule(),
+            Letter::I => self.inclusion_rule(),
+            Letter::E => self.exists_rule(),
+            Letter::L => false,
+        }
     }
 }

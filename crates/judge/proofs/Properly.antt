@@ -42,11 +42,11 @@ module _ (cs : List Concept) (apart : Apart cs) where
 
 pub every_book_is_proper : (b : Book) → Proper (rules_of (model b))
 every_book_is_proper b = record {
-  fine = b.some;
-  coarse = b.fine;
+  fine = b.fineness.some;
+  coarse = b.fineness.fine;
   builds = λ c h.
       let cs = (model b).concepts in
-      subst (BuildsOn b.fineness c) (sym (get_or_default cs c (Constant 0) no_concept h)) (builds_by b.fineness (length (model b).headings) (length (model b).roles) c (get_or cs c no_concept) (b.founded c h) (b.graded c h));
+      subst (BuildsOn (model b).fineness c) (sym (get_or_default cs c (Constant 0) no_concept h)) (builds_by (model b).fineness (length (model b).headings) (length (model b).roles) c (get_or cs c no_concept) (b.founded c h) (b.graded c h));
   different = one_number (model b).concepts b.apart;
   within = b.joined;
 }

@@ -1,5 +1,5 @@
 -- The theory's sheet, entry by entry.
-use Rattle.std.proofs.Common.{◌≡◌, ℕ, ◌+◌, ◌-◌, ◌<◌, ◌≤◌, min, Bool, leb, ◌⊎◌, List, [], map, length, get_or, take, replicate, Decides, sym, ap, ◌∙◌, subst, inl, inr, arith}
+use Rattle.std.proofs.Common.{◌≡◌, ℕ, ◌+◌, ◌-◌, ◌<◌, ◌≤◌, min, Bool, true, leb, ◌⊎◌, List, [], map, length, get_or, take, replicate, Decides, sym, ap, ◌∙◌, subst, inl, inr, arith}
 use Rattle.std.proofs.lemmas.List.{length-append, length-map, length-take, length-replicate, get_or_append_left, get_or-append_right, get_or-replicate, get_or_past, get_or-take, get_or-map}
 use Rattle.std.proofs.lemmas.Bool.{cases_lt}
 use Rattle.std.proofs.lemmas.Bool.Decides.{same_from_decides, Decides-like}
@@ -79,3 +79,13 @@ module _ (f : Finished) where
 
   pub lies_is : (k : ℕ) (r : Bool) → k < f.used → Decides r (Lies f k) → r ≡ (entry_at (sheet_of f) k).lies
   lies_is k r u d = same_from_decides r (entry_at (sheet_of f) k).lies d (lies_by k u)
+
+  pub head_is : (k : ℕ) → (get_or stored k zero_slot).head ≡ (entry_at (sheet_of f) k).head
+  head_is k = go (cases_lt k (length stored))
+    where
+      go : (k < length stored) ⊎ (length stored ≤ k) → (get_or stored k zero_slot).head ≡ (entry_at (sheet_of f) k).head
+      go (inl h) = sym (ap (λ e. e.head) (entry_stored k h))
+      go (inr h) = ap (λ e. e.head) (get_or_past stored k zero_slot h) ∙ sym (bare_past k h).1
+
+  pub lies_past : (k : ℕ) → f.used ≤ k → (entry_at (sheet_of f) k).lies ≡ true
+  lies_past k h = ap (λ e. e.lies) (entry_past k h)

@@ -1,5 +1,5 @@
 -- A judgement, from the retest of the question and the weighing of the sheet.
-use Rattle.std.proofs.Common.{◌≡◌, ℕ, ◌<◌, ◌≤◌, List, length, get_or, is_ok, Ok, Err, Decides, Result, sym, refl, subst, inl, inr, arith}
+use Rattle.std.proofs.Common.{◌≡◌, ℕ, ◌<◌, ◌≤◌, List, length, get_or, is_ok, Some, None, Ok, Err, Decides, Option, MatchOption, Result, sym, refl, subst, inl, inr, arith}
 use Rattle.std.proofs.lemmas.Bool.{cases_lt}
 use Rattle.terms.specs.declared.question.QuestionLine.{QuestionLine}
 use Rattle.terms.specs.declared.entry.Kind.{Kind}
@@ -8,7 +8,8 @@ use Rattle.terms.specs.declared.refusal.Refusal.{Refusal}
 use Rattle.terms.specs.declared.refusal.Refusal.TheVariants.{Fineness, Full, Missing, TooHigh, BadName, Already, NoLines, NoRoom, OutOfOrder, BrokenRule, BadRoot, Unfit, BadText, NoMemory}
 use Rattle.terms.specs.declared.refusal.Refused.{Refused}
 use Rattle.terms.specs.Answers.{Answered}
-use Rattle.logic.specs.Books.{Proper}
+use Rattle.logic.specs.Books.{Book, Proper}
+use Rattle.logic.specs.Entries.{Entry}
 use Rattle.logic.proofs.Unmet.{closed_means_unmet}
 use Rattle.logic.proofs.Truth.{standing_is_met}
 use Rattle.book.specs.States.{BookModel}
@@ -17,7 +18,16 @@ use Rattle.question.specs.Retests.{FirstLine, SomeLine, Retested}
 use Rattle.sheet.specs.declared.Finished.{Finished}
 use Rattle.judge.specs.declared.verdict.Verdict.{Verdict}
 use Rattle.judge.specs.Views.{rules_of, sheet_of}
-use Rattle.judge.specs.Verdicts.{Breaks, AllObey, RootFits, JudgeGround, Placed, Means, verdict_of, Judged, Found, Weighed, Obeyed}
+use Rattle.judge.specs.Verdicts.{Obeys, Breaks, FirstBreaks, AllObey, RootFits, JudgeGround, Placed, Means, verdict_of, Judged, Obeyed}
+use Rattle.judge.specs.Weighing.{Found, Weighed}
+
+-- the first number whose entry does not obey
+pub breaks_first :
+    (kind : Kind) (b : Book) (sheet : List Entry) (n : ℕ) → n ≡ length sheet → (r : Option ℕ) →
+    MatchOption r ((k : ℕ) → 0 ≤ k → k < n → Obeys kind b sheet k) (λ i. (0 ≤ i) × (i < n) × ¬ Obeys kind b sheet i × ((k : ℕ) → 0 ≤ k → k < i → Obeys kind b sheet k)) →
+    MatchOption r (AllObey kind b sheet) (FirstBreaks kind b sheet)
+breaks_first kind b sheet n e None h = λ k l. h k (omega arith) (omega arith)
+breaks_first kind b sheet n e (Some i) h = record { breaks = record { stands = omega (arith, h.1); breaks = h.2 }; first = λ k l. h.3 k (omega arith) l }
 
 module _ (b : BookModel) (qs : List QuestionLine) (f : Finished) where
   means : Proper (rules_of b) → (kind : Kind) → AllObey kind (rules_of b) (sheet_of f) → RootFits kind (rules_of b) qs (sheet_of f) f.root → Means (rules_of b) qs (sheet_of f) (verdict_of kind f.root)
@@ -50,7 +60,7 @@ module _ (b : BookModel) (qs : List QuestionLine) (f : Finished) where
     none_breaks : AllObey f.kind (rules_of b) (sheet_of f) → ¬ ((k : ℕ) × Breaks f.kind (rules_of b) (sheet_of f) k)
     none_breaks obeyed w = w.1.breaks (obeyed w.0 w.1.stands)
 
-    sheet_refuses : (e : Refusal) (p : ℕ) → Found (rules_of b) qs f e p → Answers e p
+    sheet_refuses : (e : Refusal) (p : ℕ) → Found (rules_of b) qs f.kind (sheet_of f) f.root e p → Answers e p
     sheet_refuses Fineness p h = absurd h
     sheet_refuses Full p h = absurd h
     sheet_refuses Missing p h = absurd h
@@ -68,7 +78,7 @@ module _ (b : BookModel) (qs : List QuestionLine) (f : Finished) where
     sheet_refuses BadText p h = absurd h
     sheet_refuses NoMemory p h = absurd h
 
-    weighed_judged : Proper (rules_of b) → (r : Result Verdict Refused) → Weighed (rules_of b) qs f r → Judged b qs f r
+    weighed_judged : Proper (rules_of b) → (r : Result Verdict Refused) → Weighed (rules_of b) qs f.kind (sheet_of f) f.root r → Judged b qs f r
     weighed_judged proper (Ok v) w = record {
       free = ((λ z. z), ((λ z. z), (stand, (low, ((λ z. z), ((λ z. z), (w.asks, ((λ z. z), ((λ z. z), (none_breaks w.obeyed, ((λ z. z w.fits), (w.few, ((λ z. z), tt)))))))))))));
       verdict = w.verdict;
@@ -78,8 +88,17 @@ module _ (b : BookModel) (qs : List QuestionLine) (f : Finished) where
     }
     weighed_judged proper (Err x) w = let a = sheet_refuses x.refusal x.place w in record { least = a.0; placed = a.1 }
 
-  pub by_weighing : (u : Unit {0}) → Retested b qs (Ok u) → Proper (rules_of b) → (r : Result Verdict Refused) → Weighed (rules_of b) qs f r → Judged b qs f r
-  by_weighing u t proper r w = weighed_judged t.1.1.0 t.1.1.1.0 proper r w
+  -- what is weighed is the book, the question and the sheet
+  pub by_weighing :
+      (u : Unit {0}) → Retested b qs (Ok u) → Proper (rules_of b) → (x : Book) (ls : List QuestionLine) (k : Kind) (sheet : List Entry) (root : ℕ) →
+      x ≡ rules_of b → ls ≡ qs → k ≡ f.kind → sheet ≡ sheet_of f → root ≡ f.root → (r : Result Verdict Refused) → Weighed x ls k sheet root r → Judged b qs f r
+  by_weighing u t proper x ls k sheet root same lines kind entries last r w =
+      weighed_judged t.1.1.0 t.1.1.1.0 proper r
+      (subst (λ y. Weighed y qs f.kind (sheet_of f) f.root r) same
+      (subst (λ y. Weighed x y f.kind (sheet_of f) f.root r) lines
+      (subst (λ y. Weighed x ls y (sheet_of f) f.root r) kind
+      (subst (λ y. Weighed x ls k y f.root r) entries
+      (subst (λ y. Weighed x ls k sheet y r) last w)))))
 
   -- no ground, and the sheet obeys
   stands_each : ¬ SomeLine b qs Missing → (k : ℕ) → k < length qs → (get_or qs k blank_line).concept < length b.concepts

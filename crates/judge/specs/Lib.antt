@@ -1,5 +1,5 @@
 pub mod Views
-pub mod Entering
 pub mod Verdicts
+pub mod Weighing
 pub mod Laws
 pub mod Trials

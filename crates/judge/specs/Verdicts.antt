@@ -1,5 +1,5 @@
 -- What a judgement answers: the grounds on which a sheet is refused, and what an accepted one shows.
-use Rattle.std.specs.Prelude.{◌≡◌, ℕ, ◌<◌, ◌≤◌, List, length, Ok, Err, Result}
+use Rattle.std.specs.Prelude.{◌≡◌, ℕ, ◌<◌, ◌≤◌, List, ◌++◌, length, codes, decimal, Ok, Err, Result}
 use Rattle.terms.specs.declared.question.QuestionLine.{QuestionLine}
 use Rattle.terms.specs.declared.entry.Kind.{Kind}
 use Rattle.terms.specs.declared.entry.Kind.TheVariants.{Closing, Standing}
@@ -119,34 +119,6 @@ abbrev pub Judged : BookModel → List QuestionLine → Finished → Result Verd
 Judged b qs f (Ok v) = Accepted b qs f v
 Judged b qs f (Err x) = RefusedWith b qs f x
 
--- What weighing the sheet alone finds, where the question's lines stand: the first ground, in the order of the numbers, with the place; or none.
-abbrev pub Found : Book → List QuestionLine → Finished → Refusal → ℕ → Type 0
-Found b qs f Fineness p = ⊥
-Found b qs f Full p = ⊥
-Found b qs f Missing p = ⊥
-Found b qs f TooHigh p = ⊥
-Found b qs f BadName p = ⊥
-Found b qs f Already p = ⊥
-Found b qs f NoLines p = (length qs ≡ 0) × (p ≡ 0)
-Found b qs f NoRoom p = ⊥
-Found b qs f OutOfOrder p = ⊥
-Found b qs f BrokenRule p = ¬ (length qs ≡ 0) × FirstBreaks f.kind b (sheet_of f) p
-Found b qs f BadRoot p = ¬ (length qs ≡ 0) × AllObey f.kind b (sheet_of f) × ¬ RootFits f.kind b qs (sheet_of f) f.root × (p ≡ 0)
-Found b qs f Unfit p = ¬ (length qs ≡ 0) × AllObey f.kind b (sheet_of f) × RootFits f.kind b qs (sheet_of f) f.root × TooMany f.kind (sheet_of f) × (p ≡ 0)
-Found b qs f BadText p = ⊥
-Found b qs f NoMemory p = ⊥
-
-pub record Unopposed (b : Book) (qs : List QuestionLine) (f : Finished) (v : Verdict) : Type 0 where
-  pub asks : ¬ (length qs ≡ 0)
-  pub obeyed : AllObey f.kind b (sheet_of f)
-  pub fits : RootFits f.kind b qs (sheet_of f) f.root
-  pub few : ¬ TooMany f.kind (sheet_of f)
-  pub verdict : v ≡ verdict_of f.kind f.root
-
-abbrev pub Weighed : Book → List QuestionLine → Finished → Result Verdict Refused → Type 0
-Weighed b qs f (Ok v) = Unopposed b qs f v
-Weighed b qs f (Err x) = Found b qs f x.refusal x.place
-
 -- The sheet obeys: the question has lines, all of them about concepts and degrees of the book; every entry obeys the rules of the sheet's kind; the root fits; and a standing sheet has at most 64 entries.
 pub record Obeyed (b : BookModel) (qs : List QuestionLine) (f : Finished) : Type 0 where
   pub asks : 0 < length qs
@@ -155,3 +127,8 @@ pub record Obeyed (b : BookModel) (qs : List QuestionLine) (f : Finished) : Type
   pub obeyed : AllObey f.kind (rules_of b) (sheet_of f)
   pub fits : RootFits f.kind (rules_of b) qs (sheet_of f) f.root
   pub few : ¬ TooMany f.kind (sheet_of f)
+
+-- A verdict as it is shown to a person.
+abbrev pub verdict_text : Verdict → List ℕ
+verdict_text (Closed root) = codes "closed at entry " ++ (decimal root ++ codes ": no such piece can exist")
+verdict_text (Stood root) = codes "stands at entry " ++ (decimal root ++ codes ": such a piece can exist")

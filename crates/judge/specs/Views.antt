@@ -7,7 +7,6 @@ use Rattle.sheet.specs.declared.EntrySlot.{EntrySlot}
 use Rattle.sheet.specs.declared.Finished.{Finished}
 use Rattle.sheet.specs.Entries.{part, zero_slot}
 use Rattle.book.specs.States.{BookModel}
-use Rattle.judge.specs.declared.views.Seen.{Seen}
 
 -- The theory's book: names do not matter to it.
 abbrev pub rules_of : BookModel → Book
@@ -24,7 +23,3 @@ absent = record { head = zero_slot.head; lies = false; label = [] }
 -- The theory's sheet: an entry for each that is counted.
 unfoldable pub sheet_of : Finished → List Entry
 sheet_of f = map (seen f.lines.now) (take f.used f.entries.now) ++ replicate (f.used - length f.entries.now) absent
-
--- The entry of which the head, the label and whether it lies in the store were read.
-abbrev pub entry_read : Seen → Entry
-entry_read s = record { head = s.head; lies = s.lies; label = s.label.lines.now }

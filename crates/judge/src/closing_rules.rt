@@ -1,35 +1,27 @@
-// The rules of closing sheets, over a finished sheet.
+// The rules of closing sheets.
 ghost use Rattle.std.specs.Prelude.{Decides};
-ghost use Rattle.logic.specs.Closing.{KeepsRule, Closes};
-ghost use Rattle.labels.specs.Ruled.{ruled};
-ghost use Rattle.judge.specs.Views.{sheet_of, entry_read};
-ghost use Rattle.judge.specs.Entering.{ClosesAs};
+ghost use Rattle.logic.specs.Closing.{Closes};
 
-use crate::faults::faultless;
-use crate::views::{Seen, entry_at, lines_at};
-use closing::rule::keeps_rule;
-use labels::rules::Rules;
-use sheet::Finished;
+use crate::case::Case;
+use closing::entry::ClosingEntry;
+use labels::ruled::Ruled;
 
-// Whether an entry with the number k keeps the rule of its letter.
-fn keeps_as(rules: Rules<'_>, sheet: &Finished<'_>, k: usize, e: Seen<'_>) -> bool
-    ensures { Decides result (KeepsRule (ruled rules.entry) (sheet_of sheet.now) k (entry_read e.entry)) }
-{
-    let first = lines_at(sheet, e.head.first);
-    let second = lines_at(sheet, e.head.second);
-    keeps_rule(rules, k, e.head, e.label, first, second)
-}
-
-// Whether an entry with the number k obeys the rules of a closing sheet.
-fn closes_as(rules: Rules<'_>, sheet: &Finished<'_>, k: usize, e: Seen<'_>) -> bool
-    ensures { Decides result (ClosesAs (ruled rules.entry) (sheet_of sheet.now) k (entry_read e.entry)) }
-{
-    faultless(rules, e) && keeps_as(rules, sheet, k, e)
-}
-
-// Whether the entry k does.
-pub fn closes(rules: Rules<'_>, sheet: &Finished<'_>, k: usize) -> bool
-    ensures { Decides result (Closes (ruled rules.entry) (sheet_of sheet.now) k) }
-{
-    closes_as(rules, sheet, k, entry_at(sheet, k))
+impl<'c, 's> Case<'c, 's> {
+    // Whether the entry k is without fault, and keeps the rule of its letter.
+    pub fn closes(&self, k: usize) -> bool
+        ensures { Decides result (Closes self.now.rules self.now.entries k) }
+    {
+        let entry = self.entries.entry(k);
+        let closing = ClosingEntry {
+            number: k,
+            head: entry.head,
+            ruled: Ruled {
+                rules: &self.rules,
+                label: &entry.label,
+            },
+            first: self.entries.lines(entry.head.first),
+            second: self.entries.lines(entry.head.second),
+        };
+        entry.faultless(&self.rules) && closing.keeps_rule()
+    }
 }

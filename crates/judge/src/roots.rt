@@ -5,70 +5,46 @@ ghost use Rattle.logic.specs.Lines.{EachLine, Carries, half_line};
 ghost use Rattle.logic.specs.Entries.{label_at};
 ghost use Rattle.logic.specs.Closing.{ClosingFits};
 ghost use Rattle.logic.specs.Standing.{StandingFits};
-ghost use Rattle.labels.specs.Ruled.{ruled};
-ghost use Rattle.judge.specs.Views.{sheet_of};
 
-use crate::views::{count, label_at, lines_at};
+use crate::case::Case;
 use closing::root::root_asks;
-use labels::carrying::carries;
-use labels::claim::claim_asked;
-use labels::label::Label;
-use labels::rules::Rules;
-use sheet::Finished;
+use labels::ruled::Ruled;
+use logic::claim::Claim;
 use terms::question::QuestionLine;
 
-// Whether each line of the root equals a question line.
-fn root_is_asked(question: &[QuestionLine], sheet: &Finished<'_>, root: usize) -> bool
-    ensures { Decides result (EachLine (λ l. AnyAsked (λ q. half_line q ≡ l) question.now) (label_at (sheet_of sheet.now) root)) }
+// Whether a label under the rules of a book carries each line of the question.
+fn carries_all_asked(ruled: &Ruled<'_>, question: &[QuestionLine]) -> bool
+    ensures { Decides result (EachAsked (λ q. Carries ruled.now.rules.now.fineness ruled.now.label.now (half_line q)) question.now) }
 {
-    root_asks(lines_at(sheet, root), question)
+    question
+        .iter()
+        .all(|asked| ruled.carries(Claim::from(*asked)))
 }
 
-// Whether the root of a closing sheet is an entry and fits.
-pub fn closing_fits(question: &[QuestionLine], sheet: &Finished<'_>, root: usize) -> bool
-    ensures { Decides result (ClosingFits question.now (sheet_of sheet.now) root) }
-{
-    root < count(sheet) && root_is_asked(question, sheet, root)
-}
-
-// Whether the label carries a question line.
-fn carries_asked(fineness: u32, label: Label<'_>, asked: QuestionLine) -> bool
-    ensures { Decides result (Carries fineness label.entry.lines.now (half_line asked)) }
-{
-    carries(fineness, label, claim_asked(asked))
-}
-
-fn carries_all_asked(fineness: u32, label: Label<'_>, question: &[QuestionLine]) -> bool
-    ensures { Decides result (EachAsked (λ q. Carries fineness label.entry.lines.now (half_line q)) question.now) }
-{
-    for asked in question {
-        if !carries_asked(fineness, label, *asked) {
-            return false;
-        }
+impl<'c, 's> Case<'c, 's> {
+    // Whether each line of the root equals a question line.
+    fn root_is_asked(&self) -> bool
+        ensures { Decides result (EachLine (λ l. AnyAsked (λ q. half_line q ≡ l) self.now.question.now) (label_at self.now.entries self.now.root)) }
+    {
+        root_asks(self.entries.lines(self.root), self.question)
     }
-    true
-}
 
-// Whether the root carries each question line.
-fn root_carries(
-    rules: Rules<'_>,
-    question: &[QuestionLine],
-    sheet: &Finished<'_>,
-    root: usize,
-) -> bool
-    ensures { Decides result (EachAsked (λ q. Carries rules.entry.fineness (label_at (sheet_of sheet.now) root) (half_line q)) question.now) }
-{
-    carries_all_asked(rules.fineness, label_at(sheet, root), question)
-}
+    // Whether the root of a closing sheet is an entry, and each of its lines equals a question line.
+    pub fn closing_fits(&self) -> bool
+        ensures { Decides result (ClosingFits self.now.question.now self.now.entries self.now.root) }
+    {
+        self.root < self.entries.count() && self.root_is_asked()
+    }
 
-// Whether the root of a standing sheet is an entry and fits.
-pub fn standing_fits(
-    rules: Rules<'_>,
-    question: &[QuestionLine],
-    sheet: &Finished<'_>,
-    root: usize,
-) -> bool
-    ensures { Decides result (StandingFits (ruled rules.entry) question.now (sheet_of sheet.now) root) }
-{
-    root < count(sheet) && root_carries(rules, question, sheet, root)
+    // Whether the root of a standing sheet is an entry, and carries each question line.
+    pub fn standing_fits(&self) -> bool
+        ensures { Decides result (StandingFits self.now.rules self.now.question.now self.now.entries self.now.root) }
+    {
+        let label = self.entries.label(self.root);
+        let ruled = Ruled {
+            rules: &self.rules,
+            label: &label,
+        };
+        self.root < self.entries.count() && carries_all_asked(&ruled, self.question)
+    }
 }

@@ -1,111 +1,81 @@
 // The rules of standing sheets.
-ghost use Rattle.std.specs.Prelude.{◌≡◌, Decides};
-ghost use Rattle.terms.specs.declared.entry.Letter.TheVariants.{L};
+ghost use Rattle.std.specs.Prelude.{Decides};
+ghost use Rattle.logic.specs.Books.{EachInclusion};
 ghost use Rattle.logic.specs.Lines.{EachLine};
 ghost use Rattle.logic.specs.Entries.{label_at, AnyEntry};
 ghost use Rattle.logic.specs.Clashes.{Clashes};
-ghost use Rattle.logic.specs.Standing.{Serves, Served, Settled, Stands};
-ghost use Rattle.labels.specs.Ruled.{ruled};
-ghost use Rattle.judge.specs.Views.{sheet_of, entry_read};
-ghost use Rattle.judge.specs.Entering.{SettledAlone, StandsAs};
+ghost use Rattle.logic.specs.Standing.{CarriesConclusions, KeepsInclusion, Serves, Served, Settled, Stands};
 
-use crate::faults::faultless;
-use crate::views::{Seen, count, entry_at, label_at};
-use closing::fields::bare;
-use labels::clashing::clashes;
-use labels::conclusions::carries_all_conclusions;
-use labels::inclusions::keeps_inclusions;
+use crate::case::Case;
+use closing::entry::bare;
 use labels::label::Label;
-use labels::passing::{Reach, reach_of};
-use labels::rules::Rules;
-use labels::serving::serves;
-use sheet::Finished;
+use labels::passing::Reach;
+use labels::ruled::Ruled;
 use terms::entry::Letter;
 use terms::line::Line;
 
-// Whether the entry k carries all that is passed on from the label `from`.
-fn serves_at(rules: Rules<'_>, sheet: &Finished<'_>, from: &[Line], z: Reach, k: usize) -> bool
-    ensures { Decides result (Serves (ruled rules.entry) from.now z.role z.part z.bound (label_at (sheet_of sheet.now) k)) }
-{
-    serves(rules, from, z, label_at(sheet, k))
-}
-
-// Whether some entry does.
-fn some_serves(rules: Rules<'_>, sheet: &Finished<'_>, from: &[Line], z: Reach) -> bool
-    ensures { Decides result (AnyEntry (λ e. Serves (ruled rules.entry) from.now z.role z.part z.bound e.label) (sheet_of sheet.now)) }
-{
-    for k in 0..count(sheet) {
-        if serves_at(rules, sheet, from, z, k) {
-            return true;
-        }
-    }
-    false
-}
-
-// Whether some entry serves the line, if it leads to one.
-pub fn served(rules: Rules<'_>, sheet: &Finished<'_>, label: &[Line], l: Line) -> bool
-    ensures { Decides result (Served (ruled rules.entry) (sheet_of sheet.now) label.now l) }
-{
-    match reach_of(rules, l) {
-        Some(z) => some_serves(rules, sheet, label, z),
-        None => true,
-    }
-}
-
-fn all_served(rules: Rules<'_>, sheet: &Finished<'_>, label: &[Line]) -> bool
-    ensures { Decides result (EachLine (Served (ruled rules.entry) (sheet_of sheet.now) label.now) label.now) }
-{
-    for l in label {
-        if !served(rules, sheet, label, *l) {
-            return false;
-        }
-    }
-    true
-}
-
-fn clear(rules: Rules<'_>, label: Label<'_>) -> bool
-    ensures { Decides result (¬ Clashes (ruled rules.entry) label.entry.lines.now) }
-{
-    !clashes(rules, label)
-}
-
 // Whether a label keeps what one of a standing sheet does, whatever the other entries.
-fn settled_alone(rules: Rules<'_>, label: Label<'_>) -> bool
-    ensures { Decides result (SettledAlone (ruled rules.entry) label.entry.lines.now) }
+fn settled_alone(ruled: &Ruled<'_>) -> bool
+    ensures { let b = ruled.now.rules.now in let label = ruled.now.label.now in Decides result (¬ Clashes b label × EachLine (CarriesConclusions b label) label × EachInclusion (KeepsInclusion b.fineness label) b) }
 {
-    clear(rules, label) && carries_all_conclusions(rules, label) && keeps_inclusions(rules, label)
+    !ruled.clashes() && ruled.carries_all_conclusions() && ruled.keeps_inclusions()
 }
 
-// Whether a label keeps what one of a standing sheet does.
-pub fn settled(rules: Rules<'_>, sheet: &Finished<'_>, label: Label<'_>) -> bool
-    ensures { Decides result (Settled (ruled rules.entry) (sheet_of sheet.now) label.entry.lines.now) }
-{
-    settled_alone(rules, label) && all_served(rules, sheet, label.lines)
-}
-
-// Whether the letter is that of a standing sheet.
-fn is_standing(letter: Letter) -> bool
-    ensures { Decides result (letter ≡ L) }
-{
-    match letter {
-        Letter::L => true,
-        _ => false,
+impl<'c, 's> Case<'c, 's> {
+    // Whether the entry k carries all that is passed on from the label `from`.
+    fn serves(&self, k: usize, from: &[Line], z: Reach) -> bool
+        ensures { Decides result (Serves self.now.rules from.now z.role z.part z.bound (label_at self.now.entries k)) }
+    {
+        let label = self.entries.label(k);
+        let ruled = Ruled {
+            rules: &self.rules,
+            label: &label,
+        };
+        ruled.serves(from, z)
     }
-}
 
-// Whether an entry obeys the rules of a standing sheet.
-fn stands_as(rules: Rules<'_>, sheet: &Finished<'_>, e: Seen<'_>) -> bool
-    ensures { Decides result (StandsAs (ruled rules.entry) (sheet_of sheet.now) (entry_read e.entry)) }
-{
-    faultless(rules, e)
-        && is_standing(e.head.letter)
-        && bare(e.head)
-        && settled(rules, sheet, e.label)
-}
+    // Whether some entry does.
+    fn some_serves(&self, from: &[Line], z: Reach) -> bool
+        ensures { Decides result (AnyEntry (λ e. Serves self.now.rules from.now z.role z.part z.bound e.label) self.now.entries) }
+    {
+        (0..self.entries.count()).any(|k| self.serves(k, from, z))
+    }
 
-// Whether the entry k does.
-pub fn stands(rules: Rules<'_>, sheet: &Finished<'_>, k: usize) -> bool
-    ensures { Decides result (Stands (ruled rules.entry) (sheet_of sheet.now) k) }
-{
-    stands_as(rules, sheet, entry_at(sheet, k))
+    // Whether some entry serves the line, if it leads to one.
+    pub fn served(&self, label: &[Line], l: Line) -> bool
+        ensures { Decides result (Served self.now.rules self.now.entries label.now l) }
+    {
+        match self.rules.reach(l) {
+            Some(z) => self.some_serves(label, z),
+            None => true,
+        }
+    }
+
+    fn all_served(&self, label: &[Line]) -> bool
+        ensures { Decides result (EachLine (Served self.now.rules self.now.entries label.now) label.now) }
+    {
+        label.iter().all(|l| self.served(label, *l))
+    }
+
+    // Whether a label keeps what one of a standing sheet does.
+    pub fn settled(&self, label: &Label<'_>) -> bool
+        ensures { Decides result (Settled self.now.rules self.now.entries label.now) }
+    {
+        let ruled = Ruled {
+            rules: &self.rules,
+            label,
+        };
+        settled_alone(&ruled) && self.all_served(label.lines())
+    }
+
+    // Whether the entry k is without fault, has the letter L and no field, and a settled label.
+    pub fn stands(&self, k: usize) -> bool
+        ensures { Decides result (Stands self.now.rules self.now.entries k) }
+    {
+        let entry = self.entries.entry(k);
+        entry.faultless(&self.rules)
+            && entry.head.letter == Letter::L
+            && bare(entry.head)
+            && self.settled(&entry.label)
+    }
 }

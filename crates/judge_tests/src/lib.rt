@@ -4,6 +4,10 @@
 #[cfg(test)]
 mod closing_sheets;
 #[cfg(test)]
+mod letters;
+#[cfg(test)]
 mod standing;
 #[cfg(test)]
 mod support;
+#[cfg(test)]
+mod trials;

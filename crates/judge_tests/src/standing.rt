@@ -1,5 +1,5 @@
 // Standing sheets.
-use crate::support::{Desk, HEAD, answer, asks, at_least, at_most, broken, refused};
+use crate::support::{Desk, answer, asks, broken, refused, slot};
 use book::Book;
 use judge::verdict::Verdict;
 use question::Question;
@@ -10,13 +10,17 @@ use std::rt::HostRuntime;
 use std::test::Fail;
 use terms::concept::Concept;
 use terms::entry::{Head, Kind, Letter};
+use terms::line::Line;
 use terms::question::Comparison;
 use terms::refusal::{Refusal, Refused};
 
-const STANDING: Head = Head {
-    letter: Letter::L,
-    ..HEAD
-};
+// The head of an entry of a standing sheet.
+fn standing() -> Head {
+    Head {
+        letter: Letter::L,
+        ..Head::default()
+    }
+}
 
 // A heading that is in 'some role that is it', asked not below 6.
 fn loop_desk(heap: Global) -> Result<Desk, Refused> {
@@ -36,12 +40,12 @@ fn loop_desk(heap: Global) -> Result<Desk, Refused> {
 fn serves_itself(rt: HostRuntime) -> Result<(), Fail> {
     let heap = rt.alloc();
     let desk = loop_desk(heap)?;
-    let mut entries = [EntrySlot {
-        head: STANDING,
-        start: 0,
-        count: 3,
-    }];
-    let mut lines = [at_least(0, 12), at_most(0, 12), at_least(1, 12)];
+    let mut entries = [slot(standing(), 0, 3)];
+    let mut lines = [
+        Line::at_least(0, 12),
+        Line::at_most(0, 12),
+        Line::at_least(1, 12),
+    ];
     assert_eq!(rt;
         answer(&desk, &mut entries, &mut lines, Kind::Standing, 0)?,
         Ok(Verdict::Stands(0))
@@ -50,7 +54,7 @@ fn serves_itself(rt: HostRuntime) -> Result<(), Fail> {
         answer(&desk, &mut entries, &mut lines, Kind::Standing, 1)?,
         refused(Refusal::BadRoot)
     );
-    let mut short = [at_least(0, 12), at_least(1, 12)];
+    let mut short = [Line::at_least(0, 12), Line::at_least(1, 12)];
     entries[0].count = 2;
     assert_eq!(rt;
         answer(&desk, &mut entries, &mut short, Kind::Standing, 0)?,
@@ -64,16 +68,16 @@ fn serves_itself(rt: HostRuntime) -> Result<(), Fail> {
 fn wild_slots(rt: HostRuntime) -> Result<(), Fail> {
     let heap = rt.alloc();
     let desk = loop_desk(heap)?;
-    let mut lines = [at_least(0, 12), at_most(0, 12), at_least(1, 12)];
-    let good = EntrySlot {
-        head: STANDING,
-        start: 0,
-        count: 3,
-    };
+    let mut lines = [
+        Line::at_least(0, 12),
+        Line::at_most(0, 12),
+        Line::at_least(1, 12),
+    ];
+    let good = slot(standing(), 0, 3);
     let mut named = [EntrySlot {
         head: Head {
             step: 1,
-            ..STANDING
+            ..standing()
         },
         ..good
     }];
@@ -108,12 +112,12 @@ fn wild_slots(rt: HostRuntime) -> Result<(), Fail> {
 fn entries_at_their_edge(rt: HostRuntime) -> Result<(), Fail> {
     let heap = rt.alloc();
     let desk = loop_desk(heap)?;
-    let mut lines = [at_least(0, 12), at_most(0, 12), at_least(1, 12)];
-    let good = EntrySlot {
-        head: STANDING,
-        start: 0,
-        count: 3,
-    };
+    let mut lines = [
+        Line::at_least(0, 12),
+        Line::at_most(0, 12),
+        Line::at_least(1, 12),
+    ];
+    let good = slot(standing(), 0, 3);
     let mut most = [good; 64];
     assert_eq!(rt;
         answer(&desk, &mut most, &mut lines, Kind::Standing, 63)?,
@@ -136,12 +140,8 @@ fn bound_edges(rt: &impl Abort, heap: Global, fineness: u32) -> Result<(), Fail>
         book,
         question: Question::new(),
     };
-    let mut entries = [EntrySlot {
-        head: STANDING,
-        start: 0,
-        count: 1,
-    }];
-    let mut idle = [at_least(0, -1)];
+    let mut entries = [slot(standing(), 0, 1)];
+    let mut idle = [Line::at_least(0, -1)];
     assert_eq!(rt;
         answer(&desk, &mut entries, &mut idle, Kind::Standing, 0)?,
         refused(Refusal::NoLines)
@@ -153,22 +153,22 @@ fn bound_edges(rt: &impl Abort, heap: Global, fineness: u32) -> Result<(), Fail>
         answer(&desk, &mut entries, &mut idle, Kind::Standing, 0)?,
         Ok(Verdict::Stands(0))
     );
-    let mut low = [at_most(0, -1)];
+    let mut low = [Line::at_most(0, -1)];
     assert_eq!(rt;
         answer(&desk, &mut entries, &mut low, Kind::Standing, 0)?,
         broken(0)
     );
-    let mut wide = [at_most(0, 4000)];
+    let mut wide = [Line::at_most(0, 4000)];
     assert_eq!(rt;
         answer(&desk, &mut entries, &mut wide, Kind::Standing, 0)?,
         Ok(Verdict::Stands(0))
     );
-    let mut high = [at_least(0, 4000)];
+    let mut high = [Line::at_least(0, 4000)];
     assert_eq!(rt;
         answer(&desk, &mut entries, &mut high, Kind::Standing, 0)?,
         broken(0)
     );
-    let mut past = [at_most(0, 4001)];
+    let mut past = [Line::at_most(0, 4001)];
     assert_eq!(rt;
         answer(&desk, &mut entries, &mut past, Kind::Standing, 0)?,
         broken(0)

@@ -7,34 +7,14 @@ use sheet::{EntrySlot, Finished};
 use std::alloc::Global;
 use std::test::Fail;
 use terms::concept::Concept;
-use terms::entry::{Head, Kind, Letter};
-use terms::line::{Line, Side};
+use terms::entry::{Head, Kind};
+use terms::line::Line;
 use terms::question::{Comparison, QuestionLine};
 use terms::refusal::{Refusal, Refused};
 
-pub const HEAD: Head = Head {
-    letter: Letter::Z,
-    place: 0,
-    first: 0,
-    second: 0,
-    inclusion: 0,
-    step: 0,
-};
-
-pub const fn at_least(concept: usize, bound: i32) -> Line {
-    Line {
-        concept,
-        side: Side::AtLeast,
-        bound,
-    }
-}
-
-pub const fn at_most(concept: usize, bound: i32) -> Line {
-    Line {
-        concept,
-        side: Side::AtMost,
-        bound,
-    }
+// A slot of an entry, with `count` lines from `start` on.
+pub fn slot(head: Head, start: usize, count: usize) -> EntrySlot {
+    EntrySlot { head, start, count }
 }
 
 pub fn asks(concept: usize, comparison: Comparison, degree: u32) -> QuestionLine {
@@ -53,7 +33,7 @@ pub fn broken(place: usize) -> Result<Verdict, Refused> {
 }
 
 pub fn refused(refusal: Refusal) -> Result<Verdict, Refused> {
-    Err(Refused { refusal, place: 0 })
+    Err(refusal.into())
 }
 
 // A book and a question.
@@ -86,9 +66,7 @@ pub fn answer(
     root: usize,
 ) -> Result<Result<Verdict, Refused>, Fail> {
     let used = entries.len();
-    let Ok(sheet) = Finished::over(entries, lines, used, kind, root) else {
-        return Err(Fail::new("not taken over"));
-    };
+    let sheet = Finished::over(entries, lines, used, kind, root)?;
     let (_, answer) = judge(&desk.book, &desk.question, sheet);
     Ok(answer)
 }

@@ -1,12 +1,10 @@
-use Rattle.std.proofs.Common.{◌≡◌, ℕ, arith, below_more}
-use Rattle.std.proofs.lemmas.Bool.Decides.{not_from_Decides}
+use Rattle.std.proofs.Common.{◌≡◌, rules, of_calls}
+use Rattle.std.proofs.lemmas.Iterator.{YieldsList-from_slice}
+use Rattle.logic.specs.Meeting.{AnyAsked}
+use Rattle.logic.specs.Lines.{blank_line, half_line}
+use Rattle.labels.proofs.Searching.{each_from_all}
 use Rattle.closing.proofs.root.root_asks.Goals as goal
 
-pub returns-then-not-asked : goal.returns-then-not-asked
-returns-then-not-asked c = (
-  λ e. absurd (let z : ◌≡◌ {A = ℕ} 0 1 = cc in omega arith),
-  λ all. absurd (not_from_Decides c.asked.result c.asked.ensures c.if-not-asked.true (all c.loop-l.l-index (omega arith))),
-)
-
-pub loop-l-preserved : goal.loop-l-preserved
-loop-l-preserved c = below_more _ _ c.loop-l.invariant (c.asked.ensures.0 c.if-not-asked.false)
+pub returns : goal.returns
+returns c =
+    each_from_all blank_line (λ l. AnyAsked (λ q. half_line q ≡ l) c.args.question.now) _ _ c.all.result c.all.ensures.ran (YieldsList-from_slice c.args.label.now cc) (λ x b q k. search (rules, of_calls))
