@@ -6,16 +6,20 @@ mod sheets;
 mod shows;
 
 use acts::Action;
-use anyhow::anyhow;
 use book::Book;
 use question::Question;
-use runs::perform;
-use terms::refusal::Refused;
+use runs::{Call, perform};
 
-// Why the tour could not go on.
-fn told(why: Refused) -> anyhow::Error {
-    let words = why.refusal.words();
-    anyhow!("{words}")
+// Whether what a call answers is the number of what it entered.
+fn gives_number(call: Call<'_>) -> bool {
+    matches!(
+        call,
+        Call::EnterHeading(_)
+            | Call::EnterRole(_)
+            | Call::EnterConcept(_)
+            | Call::EnterInclusion { .. }
+            | Call::EnterLine(_)
+    )
 }
 
 // Makes each call and prints what it was and what came of it.
@@ -25,15 +29,14 @@ fn make_all(
     question: &mut Question,
     actions: &[Action],
 ) -> anyhow::Result<()> {
-    for action in actions {
-        let what = action.what;
-        match perform(book, question, action.call) {
-            Ok(number) if action.numbered => println!(rt; "{what}: number {number}")?,
+    for &(what, call) in actions {
+        match perform(book, question, call) {
+            Ok(number) if gives_number(call) => println!(rt; "{what}: number {number}")?,
             Ok(_) => println!(rt; "{what}: done")?,
             Err(why) => {
+                // Without the place, of which these calls never speak.
                 let number = why.refusal.number();
-                let words = why.refusal.words();
-                println!(rt; "{what}: refused with {number}: {words}")?
+                println!(rt; "{what}: refused with {number}: {}", why.refusal)?
             }
         }
     }
@@ -42,10 +45,7 @@ fn make_all(
 
 fn run(rt: &HostRuntime) -> anyhow::Result<()> {
     let mut question = Question::new();
-    let mut book = match Book::new(rt.alloc(), 10) {
-        Ok(book) => book,
-        Err(why) => return Err(told(why)),
-    };
+    let mut book = Book::new(rt.alloc(), 10)?;
     println!(rt; "A parish book in tenths")?;
     make_all(rt, &mut book, &mut question, &acts::names())?;
     make_all(rt, &mut book, &mut question, &acts::concepts())?;
