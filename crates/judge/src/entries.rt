@@ -69,20 +69,20 @@ impl<'s, 'a> Entries<'s, 'a> {
 
     // The lines of an entry that lie in the store.
     #[tactic(auto, using(crate::proofs::Seeing::label_is))]
-    pub fn lines(&self, k: usize) -> &[Line]
+    pub fn lines(&self, k: usize) -> &'s [Line]
         ensures { result.now ≡ label_at self.now k }
     {
         self.sheet.label(k)
     }
 
     // The label of an entry.
-    pub fn label(&self, k: usize) -> Label<'_>
+    pub fn label(&self, k: usize) -> Label<'s>
         ensures { result ≡ label_at self.now k }
     {
         Label::new(self.lines(k))
     }
 
-    pub fn entry(&self, k: usize) -> EntryRead<'_>
+    pub fn entry(&self, k: usize) -> EntryRead<'s>
         ensures { entry_read result ≡ entry_at self.now k }
     {
         EntryRead {

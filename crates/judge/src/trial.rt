@@ -42,7 +42,7 @@ pub fn judge_lent_on_trial(
     with_trial(book, question, line, &Lent { sheet })
 }
 
-// The same on a sheet that is handed over, and comes back as it was: as `judge` is to `judge_lent`.
+// The same on a sheet that is handed over, as the calls on sheets take it, and comes back as it was: as `judge` is to `judge_lent`.
 pub fn judge_on_trial<'a>(
     book: &Book,
     question: &mut Question,

@@ -49,7 +49,7 @@ impl<'a> Label<'a> {
         }
     }
 
-    pub fn lines(&self) -> &[Line]
+    pub fn lines(&self) -> &'a [Line]
         ensures { result.now ≡ self.now }
     {
         match &self.lines {

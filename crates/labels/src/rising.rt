@@ -55,7 +55,7 @@ impl<'a> Rising<'a> {
         }
     }
 
-    pub(crate) fn lines(&self) -> &[Line]
+    pub(crate) fn lines(&self) -> &'a [Line]
         ensures { result.now ≡ self.now }
     {
         self.lines

@@ -38,13 +38,13 @@ impl<'a> Rules<'a> {
         self.fineness
     }
 
-    pub fn concepts(&self) -> &[Concept]
+    pub fn concepts(&self) -> &'a [Concept]
         ensures { result.now ≡ self.now.concepts }
     {
         self.concepts
     }
 
-    pub fn inclusions(&self) -> &[Inclusion]
+    pub fn inclusions(&self) -> &'a [Inclusion]
         ensures { result.now ≡ self.now.inclusions }
     {
         self.inclusions

@@ -30,7 +30,7 @@ impl Model for Claim {
 }
 
 impl Claim {
-    // The concept is at least the bound.
+    // The concept is at least the bound. (A maker for each side, and not one that is told the side: that is the literal.)
     pub fn at_least(concept: usize, bound: i64) -> Claim
         ensures { result ≡ line concept AtLeast bound }
     {

@@ -70,7 +70,7 @@ impl<'a> Sheet<'a> {
     pub fn begin(self, head: Head) -> Result<Begun<'a>, Unchanged<Sheet<'a>>>
         ensures { BeginAnswer self.entry head result }
     {
-        // A match, since both answers take the sheet.
+        // (Without `?`, which would let the sheet go that a refusal gives back.)
         match self.may_begin(head) {
             Ok(()) => Ok(Begun {
                 sheet: self,

@@ -28,6 +28,7 @@ impl Line {
         !(-1..=4000).contains(&self.bound)
     }
 
+    // (A maker for each side, and not one that is told the side: that is the literal.)
     pub const fn at_least(concept: usize, bound: i32) -> Line
         ensures { result ≡ at_least concept bound }
     {

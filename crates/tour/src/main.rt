@@ -34,7 +34,7 @@ fn make_all(
             Ok(number) if gives_number(call) => println!(rt; "{what}: number {number}")?,
             Ok(_) => println!(rt; "{what}: done")?,
             Err(why) => {
-                // Without the place, of which these calls never speak.
+                // (Not as it shows itself, with its place: what is printed stays as it was.)
                 let number = why.refusal.number();
                 println!(rt; "{what}: refused with {number}: {}", why.refusal)?
             }
