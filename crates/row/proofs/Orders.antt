@@ -1,17 +1,15 @@
 -- What the laws of an order give of lists. Assumes nothing.
-use Rattle.std.proofs.Common.{◌≡◌, ℕ, zero, suc, ◌+◌, ◌-◌, ◌<◌, ◌≤◌, ◌⊎◌, List, [], ◌∷◌, ◌++◌, length, get_or, Ordering, Less, Equal, Greater, Result, Ok, Err, sym, refl, ap, ◌∙◌, subst, inl, inr, true≢false, arith}
+use Rattle.std.proofs.Common.{◌≡◌, ℕ, zero, suc, ◌+◌, ◌-◌, ◌<◌, ◌≤◌, ◌⊎◌, List, [], ◌∷◌, ◌++◌, length, get_or, Ordering, Less, Equal, Greater, sym, refl, ap, ◌∙◌, subst, inl, inr, true≢false, arith}
 use Rattle.std.specs.Ordering.{ordering_reverse, is_lt, is_gt}
 use Rattle.std.specs.List.{insert, AllWithin, HoldsAt}
-use Rattle.std.specs.List.Sorted.{IsStrictlySortedBy, IsSorted, IsSearchInRange, IsBinarySearchResult}
+use Rattle.std.specs.List.Sorted.{IsStrictlySortedBy}
 use Rattle.std.specs.Cmp.{IsTotalOrder, alike_right}
 use Rattle.std.proofs.lemmas.List.Edits.{length-insert, get_or-insert_below, get_or-insert_at, get_or-insert_above}
 use Rattle.std.proofs.ByRecursion.{All-from_get_or}
 use Rattle.std.proofs.lemmas.Map.Keys.{Less-from_sorted}
 use Rattle.std.proofs.lemmas.List.{take_all, drop_all}
-use Rattle.std.proofs.lemmas.List.Sorted.{searchable_from_sorted}
 use Rattle.std.proofs.lemmas.Bool.{cases_lt, cases_order}
 use Rattle.row.specs.Order.{Ascending, Climbing, Found, Missing, Absent, LastBelow, pick, put}
-use Rattle.row.specs.Search.{SearchSorted}
 
 -- ---- Ascending in the form of a ghost field
 
@@ -34,6 +32,36 @@ less≢equal p q = absurd (true≢false (ap is_lt (sym p ∙ q)))
 greater≢equal : {X : Type 0} {a : Ordering} → a ≡ Greater → a ≡ Equal → X
 greater≢equal p q = absurd (true≢false (ap is_gt (sym p ∙ q)))
 
+module _ {X K : Type 0} (cmp : X → X → Ordering) (key : X → K)
+    (total : (x y : X) → cmp x y ≡ ordering_reverse (cmp y x))
+    (transitive : (x y z : X) → cmp x y ≡ Less → cmp y z ≡ Less → cmp x z ≡ Less)
+    (agrees : (x y : X) → (cmp x y ≡ Equal → key x ≡ key y) × (key x ≡ key y → cmp x y ≡ Equal)) where
+  alike_from : (x y z : X) → cmp x y ≡ Equal → cmp x z ≡ cmp y z
+  alike_from x y z e = go (cmp x z) (cmp y z) refl refl
+    where
+      keys : key x ≡ key y
+      keys = (agrees x y).0 e
+
+      first : cmp y z ≡ Equal → cmp x z ≡ Equal
+      first q = (agrees x z).1 (keys ∙ (agrees y z).0 q)
+
+      second : cmp x z ≡ Equal → cmp y z ≡ Equal
+      second p = (agrees y z).1 (sym keys ∙ (agrees x z).0 p)
+
+      go : (a b : Ordering) → cmp x z ≡ a → cmp y z ≡ b → a ≡ b
+      go Less Less p q = refl
+      go Less Equal p q = less≢equal p (first q)
+      go Less Greater p q = less≢equal (transitive x z y p (total z y ∙ ap ordering_reverse q)) e
+      go Equal Less p q = less≢equal q (second p)
+      go Equal Equal p q = refl
+      go Equal Greater p q = greater≢equal q (second p)
+      go Greater Less p q = greater≢equal (total x y ∙ ap ordering_reverse (transitive y z x q (total z x ∙ ap ordering_reverse p))) e
+      go Greater Equal p q = greater≢equal p (first q)
+      go Greater Greater p q = refl
+
+  pub order_from_laws : IsTotalOrder cmp
+  order_from_laws = record { antisymm = total; trans = transitive; congr = alike_from }
+
 module _ {X : Type 0} (cmp : X → X → Ordering) (o : IsTotalOrder cmp) where
   turned : (x y : X) (a : Ordering) → cmp x y ≡ a → cmp y x ≡ ordering_reverse a
   turned x y a e = o.antisymm y x ∙ ap ordering_reverse e
@@ -48,6 +76,14 @@ module _ {X : Type 0} (cmp : X → X → Ordering) (o : IsTotalOrder cmp) where
       go (inl l) = o.trans (get_or xs k d) (get_or xs mid d) x (up k mid d l in') (at d)
       go (inr g) = let e : mid ≡ k = omega arith in subst (λ (n : ℕ). cmp (get_or xs n d) x ≡ Less) e (at d)
 
+  -- where the element at mid is above x, so is each after it
+  pub above_from : (x : X) (xs : List X) (mid : ℕ) → HoldsAt (λ y. cmp y x ≡ Greater) xs mid → Ascending cmp xs → AllWithin (λ y. cmp y x ≡ Greater) xs mid (length xs)
+  above_from x xs mid at up k d h in' = go (cases_lt mid k)
+    where
+      go : (mid < k) ⊎ (k ≤ mid) → cmp (get_or xs k d) x ≡ Greater
+      go (inl l) = turned x (get_or xs k d) Less (o.trans x (get_or xs mid d) (get_or xs k d) (turned (get_or xs mid d) x Greater (at d)) (up mid k d l in'))
+      go (inr g) = let e : mid ≡ k = omega arith in subst (λ (n : ℕ). cmp (get_or xs n d) x ≡ Greater) e (at d)
+
   pub found_from_equal : (x : X) (xs : List X) (mid : ℕ) → mid < length xs → HoldsAt (λ y. cmp y x ≡ Equal) xs mid → Ascending cmp xs → Found cmp x xs mid
   found_from_equal x xs mid in' at up = record {
     within = in';
@@ -55,17 +91,6 @@ module _ {X : Type 0} (cmp : X → X → Ordering) (o : IsTotalOrder cmp) where
     equal = at;
     above = λ k d a b. turned x (get_or xs k d) Less (sym (o.congr (get_or xs mid d) x (get_or xs k d) (at d)) ∙ up mid k d (omega arith) b);
   }
-
-  -- ---- what a binary search tells of one
-
-  ascending_sorted : (xs : List X) → Ascending cmp xs → IsSorted cmp xs
-  ascending_sorted xs up k d a b = ap is_lt (turned (get_or xs k d) (get_or xs (k + 1) d) Less (up k (k + 1) d (omega arith) b))
-
-  pub searched : (x : X) (xs : List X) (r : Result ℕ ℕ) → IsSearchInRange r (length xs) → IsBinarySearchResult (λ y. cmp y x) xs r → Ascending cmp xs → SearchSorted cmp x xs r
-  searched x xs (Ok i) in' at up = found_from_equal x xs i in' at up
-  searched x xs (Err i) in' parts up =
-      let p = parts (searchable_from_sorted o (λ y. y) xs x (ascending_sorted xs up)) in
-      record { within = in'; below = p.0; above = p.1 }
 
   -- ---- insertion at the place of x
 

@@ -1,13 +1,15 @@
-// Rows of elements in strict order (sorted arrays without equal elements), over slices that are lent. The order is that of the element type's `Ord`.
+// Rows of elements in strict order (sorted arrays without equal elements), over slices that are lent. The order is one whose laws the element type shows, as each type that is `Ord` does.
 #![tactic(auto)]
 
 ghost use Rattle.std.specs.Prelude.{◌≤◌, length};
 
 mod lookup;
+mod order;
 mod placing;
 mod reading;
 
 pub use lookup::search;
+pub use order::Ordered;
 
 // Why an element was not placed.
 #[derive(Clone, Copy, PartialEq, Eq, Debug)]

@@ -5,16 +5,17 @@ ghost use Rattle.row.specs.Order.{Ascending, LastBelow, LastNotBelow};
 ghost use Rattle.row.specs.Rows.{items, room, Kept};
 ghost use Rattle.row.specs.Placing.{InsertOutcome, InsertSorted, AppendOutcome};
 
+use crate::order::Ordered;
 use crate::{Row, Unplaced};
 
 // Whether x is above the last element, if there is one.
-fn above_last<T: Ord>(items: &[T], x: &T) -> bool
-    ensures { MatchBool result (LastBelow T.cmp x.now items.now) (LastNotBelow T.cmp x.now items.now) }
+fn above_last<T: Ordered>(items: &[T], x: &T) -> bool
+    ensures { MatchBool result (LastBelow T.Ordered.cmp x.now items.now) (LastNotBelow T.Ordered.cmp x.now items.now) }
 {
-    items.last().is_none_or(|last| last.cmp(x).is_lt())
+    items.last().is_none_or(|last| last.compare(x).is_lt())
 }
 
-impl<'a, T: Ord + Copy> Row<'a, T> {
+impl<'a, T: Ordered> Row<'a, T> {
     // Puts x at i and moves what stood from there on one place on.
     fn put_at(&mut self, i: usize, x: T)
         requires room { self.old.len < room self.old }
@@ -24,16 +25,16 @@ impl<'a, T: Ord + Copy> Row<'a, T> {
         ensures lender { self.new.slots.ghost_name ≡ self.old.slots.ghost_name }
     {
         let n = self.len;
-        self.slots[n] = x;
-        self.slots[i..=n].rotate_right(1);
+        self.slots.copy_within(i..n, i + 1);
+        self.slots[i] = x;
         self.len = n + 1;
     }
 
     // Puts x in its place, unless an equal one is there or there is no room.
     pub fn insert(&mut self, x: T) -> Result<usize, Unplaced>
-        ensures outcome { InsertOutcome T.cmp x (items self.old) (room self.old) (items self.new) result }
-        ensures sorted { Ascending T.cmp (items self.old) → InsertSorted T.cmp x (items self.old) (items self.new) result }
-        ensures ascending { Ascending T.cmp (items self.old) → Ascending T.cmp (items self.new) }
+        ensures outcome { InsertOutcome T.Ordered.cmp x (items self.old) (room self.old) (items self.new) result }
+        ensures sorted { Ascending T.Ordered.cmp (items self.old) → InsertSorted T.Ordered.cmp x (items self.old) (items self.new) result }
+        ensures ascending { Ascending T.Ordered.cmp (items self.old) → Ascending T.Ordered.cmp (items self.new) }
         ensures kept { Kept self.old self.new (is_ok result) }
         ensures lender { self.new.slots.ghost_name ≡ self.old.slots.ghost_name }
     {
@@ -50,8 +51,8 @@ impl<'a, T: Ord + Copy> Row<'a, T> {
 
     // Puts x after the last element, unless there is no room or it is not above that one.
     pub fn append(&mut self, x: T) -> Result<usize, Unplaced>
-        ensures outcome { AppendOutcome T.cmp x (items self.old) (room self.old) (items self.new) result }
-        ensures ascending { Ascending T.cmp (items self.old) → Ascending T.cmp (items self.new) }
+        ensures outcome { AppendOutcome T.Ordered.cmp x (items self.old) (room self.old) (items self.new) result }
+        ensures ascending { Ascending T.Ordered.cmp (items self.old) → Ascending T.Ordered.cmp (items self.new) }
         ensures kept { Kept self.old self.new (is_ok result) }
         ensures lender { self.new.slots.ghost_name ≡ self.old.slots.ghost_name }
     {

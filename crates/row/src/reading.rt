@@ -6,8 +6,9 @@ ghost use Rattle.row.specs.Search.{SearchOutcome, SearchSorted};
 ghost use Rattle.row.specs.Rows.{items};
 
 use crate::Row;
+use crate::order::Ordered;
 
-impl<'a, T: Ord + Copy> Row<'a, T> {
+impl<'a, T: Ordered> Row<'a, T> {
     // The row of the first len slots, or of them all where there are fewer.
     pub fn over(slots: &'a mut [T], len: usize) -> Row<'a, T>
         ensures len { result.len ≡ min len (length slots.old) }
@@ -42,8 +43,8 @@ impl<'a, T: Ord + Copy> Row<'a, T> {
 
     // Where an element that equals x stands, or else where x would go.
     pub fn search(&self, x: &T) -> Result<usize, usize>
-        ensures outcome { SearchOutcome T.cmp x.now (items self.now) result }
-        ensures sorted { Ascending T.cmp (items self.now) → SearchSorted T.cmp x.now (items self.now) result }
+        ensures outcome { SearchOutcome T.Ordered.cmp x.now (items self.now) result }
+        ensures sorted { Ascending T.Ordered.cmp (items self.now) → SearchSorted T.Ordered.cmp x.now (items self.now) result }
     {
         crate::search(self.as_slice(), x)
     }
