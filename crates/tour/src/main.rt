@@ -45,7 +45,8 @@ fn make_all(
 
 fn run(rt: &HostRuntime) -> anyhow::Result<()> {
     let mut question = Question::new();
-    let mut book = Book::new(rt.alloc(), 10)?;
+    // (A tour that cannot go on says why in words alone.)
+    let mut book = Book::new(rt.alloc(), 10).map_err(|why| why.refusal)?;
     println!(rt; "A parish book in tenths")?;
     make_all(rt, &mut book, &mut question, &acts::names())?;
     make_all(rt, &mut book, &mut question, &acts::concepts())?;
