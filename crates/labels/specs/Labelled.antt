@@ -1,15 +1,13 @@
--- The lines that a label holds, and what is known of their order.
+-- The lines that a label holds.
 use Rattle.std.specs.Prelude.{List}
 use Rattle.terms.specs.declared.line.Line.{Line}
-use Rattle.logic.specs.Entries.{Rises}
 use Rattle.labels.specs.declared.label.Lines.{Lines}
 use Rattle.labels.specs.declared.label.Lines.TheVariants.{Rising, Unordered}
+use Rattle.labels.specs.declared.label.Label.{Label}
 
-abbrev pub labelled : Lines → List Line
-labelled (Rising lines) = lines
-labelled (Unordered lines) = lines.now
+abbrev pub lines_of : Lines → List Line
+lines_of (Rising r) = r.lines.now
+lines_of (Unordered lines) = lines.now
 
--- they rise, or they do not
-abbrev pub Known : Lines → Type 0
-Known (Rising lines) = Rises lines
-Known (Unordered lines) = ¬ Rises lines.now
+abbrev pub labelled : Label → List Line
+labelled l = lines_of l.lines

@@ -1,4 +1,7 @@
-pub mod Lookup
+pub mod Ruled
+pub mod Rising
+pub mod Known
 pub mod Labelled
+pub mod Lookup
 pub mod Following
 pub mod Passing

@@ -2,6 +2,8 @@
 ghost use Rattle.std.specs.Prelude.{◌≡◌, Decides};
 ghost use Rattle.logic.specs.Conclusions.{conclusions_of, Among};
 ghost use Rattle.logic.specs.Closing.{Adds};
+ghost use Rattle.labels.specs.Ruled.{ruled};
+ghost use Rattle.labels.specs.Labelled.{labelled};
 
 use crate::label::Label;
 use crate::ruled::Ruled;
@@ -11,7 +13,7 @@ use terms::line::Line;
 impl<'a> Label<'a> {
     // Whether each line of the child is one of the label's or the one claimed.
     pub fn adds(&self, w: Claim, child: &[Line]) -> bool
-        ensures { Decides result (Adds self.now (λ l. l ≡ w) child.now) }
+        ensures { Decides result (Adds (labelled self.now) (λ l. l ≡ w) child.now) }
     {
         child.iter().all(|l| self.has(*l) || w.is(*l))
     }
@@ -20,7 +22,7 @@ impl<'a> Label<'a> {
 impl<'a> Ruled<'a> {
     // Whether each line of the child is one of the label's or a conclusion of the line `from`.
     pub fn adds_conclusions(&self, from: Line, child: &[Line]) -> bool
-        ensures { Decides result (Adds self.now.label.now (Among (conclusions_of self.now.rules.now from)) child.now) }
+        ensures { Decides result (Adds (labelled self.now.label.now) (Among (conclusions_of (ruled self.now.rules.now) from)) child.now) }
     {
         child
             .iter()

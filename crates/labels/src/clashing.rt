@@ -2,6 +2,8 @@
 ghost use Rattle.std.specs.Prelude.{Decides};
 ghost use Rattle.logic.specs.Lines.{AnyLine};
 ghost use Rattle.logic.specs.Clashes.{Broken, Crosses, Clashing, Clashes};
+ghost use Rattle.labels.specs.Ruled.{ruled};
+ghost use Rattle.labels.specs.Labelled.{labelled};
 
 use crate::label::Label;
 use crate::ruled::Ruled;
@@ -23,7 +25,7 @@ fn broken(form: Concept, l: Line) -> bool
 impl<'a> Label<'a> {
     // Whether the line, an at-least line, clashes with an at-most line of the label.
     fn crosses(&self, l: Line) -> bool
-        ensures { Decides result (AnyLine (Crosses l) self.now) }
+        ensures { Decides result (AnyLine (Crosses l) (labelled self.now)) }
     {
         l.side == Side::AtLeast
             && self
@@ -35,7 +37,7 @@ impl<'a> Label<'a> {
 impl<'a> Ruled<'a> {
     // Whether the line clashes, by itself or with another of the label.
     fn clashing(&self, l: Line) -> bool
-        ensures { Decides result (Clashing self.now.rules.now self.now.label.now l) }
+        ensures { Decides result (Clashing (ruled self.now.rules.now) (labelled self.now.label.now) l) }
     {
         beyond(self.rules.fineness(), l)
             || broken(self.rules.concept(l.concept), l)
@@ -44,7 +46,7 @@ impl<'a> Ruled<'a> {
 
     // Whether a line of the label clashes.
     pub fn clashes(&self) -> bool
-        ensures { Decides result (Clashes self.now.rules.now self.now.label.now) }
+        ensures { Decides result (Clashes (ruled self.now.rules.now) (labelled self.now.label.now)) }
     {
         self.label.lines().iter().any(|l| self.clashing(*l))
     }

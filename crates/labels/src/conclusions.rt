@@ -4,6 +4,8 @@ ghost use Rattle.std.specs.List.{AllByRecursion};
 ghost use Rattle.logic.specs.Lines.{line, other, EachLine, Carries};
 ghost use Rattle.logic.specs.Conclusions.{conclusions, conclusions_of, Among};
 ghost use Rattle.logic.specs.Standing.{Chooses, CarriesConclusions};
+ghost use Rattle.labels.specs.Ruled.{ruled};
+ghost use Rattle.labels.specs.Labelled.{labelled};
 ghost use Rattle.labels.specs.Following.{followed};
 
 use crate::ruled::Ruled;
@@ -72,14 +74,14 @@ fn is_among(all: Follows, l: Line) -> bool
 impl<'a> Rules<'a> {
     // The conclusions of a line.
     fn conclusions(&self, l: Line) -> Follows
-        ensures { followed result ≡ conclusions_of self.now l }
+        ensures { followed result ≡ conclusions_of (ruled self.now) l }
     {
         follows_by(self.fineness(), self.concept(l.concept), l)
     }
 
     // Whether the line l is a conclusion of the line `from`.
     pub fn concludes(&self, from: Line, l: Line) -> bool
-        ensures { Decides result (Among (conclusions_of self.now from) l) }
+        ensures { Decides result (Among (conclusions_of (ruled self.now) from) l) }
     {
         is_among(self.conclusions(from), l)
     }
@@ -88,7 +90,7 @@ impl<'a> Rules<'a> {
 impl<'a> Ruled<'a> {
     // Whether the label carries what is claimed, if anything is.
     fn carries_if(&self, w: Option<Claim>) -> bool
-        ensures { Decides result (IfSome w (Carries self.now.rules.now.fineness self.now.label.now)) }
+        ensures { Decides result (IfSome w (Carries (ruled self.now.rules.now).fineness (labelled self.now.label.now))) }
     {
         // (By `is_none_or` the proof does not close by itself.)
         match w {
@@ -99,14 +101,14 @@ impl<'a> Ruled<'a> {
 
     // Whether the label carries all of them.
     fn carries_all(&self, all: Follows) -> bool
-        ensures { Decides result (AllByRecursion (Carries self.now.rules.now.fineness self.now.label.now) (followed all)) }
+        ensures { Decides result (AllByRecursion (Carries (ruled self.now.rules.now).fineness (labelled self.now.label.now)) (followed all)) }
     {
         all.iter().all(|w| self.carries_if(*w))
     }
 
     // Of 'the lesser of c and d at most z', whether the label carries 'c at most z' or 'd at most z'.
     fn chooses(&self, form: Concept, l: Line) -> bool
-        ensures { Decides result (Chooses self.now.rules.now.fineness self.now.label.now form l.side l.bound) }
+        ensures { Decides result (Chooses (ruled self.now.rules.now).fineness (labelled self.now.label.now) form l.side l.bound) }
     {
         match (form, l.side) {
             (Concept::Lesser(c, d), Side::AtMost) => {
@@ -118,7 +120,7 @@ impl<'a> Ruled<'a> {
 
     // Whether the label carries what its line l concludes.
     pub fn carries_conclusions(&self, l: Line) -> bool
-        ensures { Decides result (CarriesConclusions self.now.rules.now self.now.label.now l) }
+        ensures { Decides result (CarriesConclusions (ruled self.now.rules.now) (labelled self.now.label.now) l) }
     {
         self.carries_all(self.rules.conclusions(l))
             && self.chooses(self.rules.concept(l.concept), l)
@@ -126,7 +128,7 @@ impl<'a> Ruled<'a> {
 
     // Whether the label carries what each of its lines concludes.
     pub fn carries_all_conclusions(&self) -> bool
-        ensures { Decides result (EachLine (CarriesConclusions self.now.rules.now self.now.label.now) self.now.label.now) }
+        ensures { Decides result (EachLine (CarriesConclusions (ruled self.now.rules.now) (labelled self.now.label.now)) (labelled self.now.label.now)) }
     {
         self.label
             .lines()

@@ -3,6 +3,8 @@ ghost use Rattle.std.specs.Prelude.{◌≡◌, Decides};
 ghost use Rattle.terms.specs.declared.line.Side.TheVariants.{AtLeast};
 ghost use Rattle.logic.specs.Lines.{line, AnyLine, EachLine};
 ghost use Rattle.logic.specs.Conclusions.{Denies, Passes};
+ghost use Rattle.labels.specs.Ruled.{ruled};
+ghost use Rattle.labels.specs.Labelled.{labelled};
 ghost use Rattle.labels.specs.Passing.{Under, Denier, SomeDenier, Reaching};
 
 use crate::ruled::Ruled;
@@ -38,7 +40,7 @@ impl Reach {
 impl<'a> Rules<'a> {
     // What a line reaches, if it is 'some r that is c at least z' with z at least 1.
     pub fn reach(&self, l: Line) -> Option<Reach>
-        ensures { Reaching self.now l result }
+        ensures { Reaching (ruled self.now) l result }
     {
         match (self.concept(l.concept), l.side) {
             (Concept::Exists(role, part), Side::AtLeast) if 1 <= l.bound => Some(Reach {
@@ -54,7 +56,7 @@ impl<'a> Rules<'a> {
 impl<'a> Ruled<'a> {
     // Whether the label has a line on the concept c that denies just what the line l says.
     fn denies(&self, z: Reach, c: usize, l: Line) -> bool
-        ensures { Decides result (Denier self.now.rules.now self.now.label.now z.role l c) }
+        ensures { Decides result (Denier (ruled self.now.rules.now) (labelled self.now.label.now) z.role l c) }
     {
         self.rules.concept(c) == Concept::Exists(z.role, l.concept)
             && self.label.has(Line::at_most(c, l.bound))
@@ -62,34 +64,34 @@ impl<'a> Ruled<'a> {
 
     // Whether it has one on some concept.
     fn some_denies(&self, z: Reach, l: Line) -> bool
-        ensures { Decides result (SomeDenier self.now.rules.now self.now.label.now z.role l) }
+        ensures { Decides result (SomeDenier (ruled self.now.rules.now) (labelled self.now.label.now) z.role l) }
     {
         (0..self.rules.concepts().len()).any(|c| self.denies(z, c, l))
     }
 
     fn denied_by_concept(&self, z: Reach, l: Line) -> bool
-        ensures { Decides result (Under z.bound l × SomeDenier self.now.rules.now self.now.label.now z.role l) }
+        ensures { Decides result (Under z.bound l × SomeDenier (ruled self.now.rules.now) (labelled self.now.label.now) z.role l) }
     {
         z.is_above(l) && self.some_denies(z, l)
     }
 
     // Whether the line l is what a line of the label denies where the role leads to the bound.
     pub fn denied(&self, z: Reach, l: Line) -> bool
-        ensures { Decides result (AnyLine (λ m. Denies self.now.rules.now z.role z.bound m l) self.now.label.now) }
+        ensures { Decides result (AnyLine (λ m. Denies (ruled self.now.rules.now) z.role z.bound m l) (labelled self.now.label.now)) }
     {
         self.denied_by_concept(z, l)
     }
 
     // Whether the line is passed on.
     pub fn passes(&self, z: Reach, l: Line) -> bool
-        ensures { Decides result (Passes self.now.rules.now self.now.label.now z.role z.part z.bound l) }
+        ensures { Decides result (Passes (ruled self.now.rules.now) (labelled self.now.label.now) z.role z.part z.bound l) }
     {
         z.claim().is(l) || self.denied(z, l)
     }
 
     // Whether each line of the child is passed on.
     pub fn passes_all(&self, z: Reach, child: &[Line]) -> bool
-        ensures { Decides result (EachLine (Passes self.now.rules.now self.now.label.now z.role z.part z.bound) child.now) }
+        ensures { Decides result (EachLine (Passes (ruled self.now.rules.now) (labelled self.now.label.now) z.role z.part z.bound) child.now) }
     {
         child.iter().all(|l| self.passes(z, *l))
     }

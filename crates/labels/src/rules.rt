@@ -1,29 +1,21 @@
 // A book as the tests read it.
 ghost use Rattle.std.specs.Prelude.{◌≡◌, Decides};
 ghost use Rattle.logic.specs.Books.{StandsIn, concept_at, inclusion_at};
+ghost use Rattle.labels.specs.Ruled.{ruled};
 
-use std::marker::Model;
 use terms::concept::{Concept, Inclusion};
 
-// The fineness, concepts and inclusions of a book. Contracts see the book.
-#[derive(Clone, Drop)]
+// The fineness, concepts and inclusions of a book.
+#[derive(Clone, Copy)]
 pub struct Rules<'a> {
-    fineness: u32,
-    concepts: &'a [Concept],
-    inclusions: &'a [Inclusion],
-}
-
-impl<'a> Model for Rules<'a> {
-    ghost use Rattle.logic.specs.Books.{Book};
-
-    ghost Value = { Book };
-
-    ghost view = { λ r. record { fineness = r.fineness; concepts = r.concepts.now; inclusions = r.inclusions.now } };
+    pub fineness: u32,
+    pub concepts: &'a [Concept],
+    pub inclusions: &'a [Inclusion],
 }
 
 impl<'a> Rules<'a> {
     pub fn new(fineness: u32, concepts: &'a [Concept], inclusions: &'a [Inclusion]) -> Rules<'a>
-        ensures { result ≡ record { fineness = fineness; concepts = concepts.now; inclusions = inclusions.now } }
+        ensures { ruled result ≡ record { fineness = fineness; concepts = concepts.now; inclusions = inclusions.now } }
     {
         Rules {
             fineness,
@@ -33,26 +25,26 @@ impl<'a> Rules<'a> {
     }
 
     pub fn fineness(&self) -> u32
-        ensures { result ≡ self.now.fineness }
+        ensures { result ≡ (ruled self.now).fineness }
     {
         self.fineness
     }
 
     pub fn concepts(&self) -> &'a [Concept]
-        ensures { result.now ≡ self.now.concepts }
+        ensures { result.now ≡ (ruled self.now).concepts }
     {
         self.concepts
     }
 
     pub fn inclusions(&self) -> &'a [Inclusion]
-        ensures { result.now ≡ self.now.inclusions }
+        ensures { result.now ≡ (ruled self.now).inclusions }
     {
         self.inclusions
     }
 
     // The concept of a number; past the last, the degree 0.
     pub fn concept(&self, c: usize) -> Concept
-        ensures { result ≡ concept_at self.now c }
+        ensures { result ≡ concept_at (ruled self.now) c }
     {
         let found = self.concepts.get(c);
         found.copied().unwrap_or(Concept::Constant(0))
@@ -60,7 +52,7 @@ impl<'a> Rules<'a> {
 
     // The inclusion of a number.
     pub fn inclusion(&self, i: usize) -> Inclusion
-        ensures { result ≡ inclusion_at self.now i }
+        ensures { result ≡ inclusion_at (ruled self.now) i }
     {
         let found = self.inclusions.get(i);
         found.copied().unwrap_or_default()
@@ -68,7 +60,7 @@ impl<'a> Rules<'a> {
 
     // Whether the number is that of a concept.
     pub fn stands(&self, c: usize) -> bool
-        ensures { Decides result (StandsIn self.now c) }
+        ensures { Decides result (StandsIn (ruled self.now) c) }
     {
         c < self.concepts().len()
     }
