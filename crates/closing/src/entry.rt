@@ -2,6 +2,8 @@
 ghost use Rattle.std.specs.Prelude.{◌≡◌, ◌<◌, ◌≤◌, length, Decides, MatchOption};
 ghost use Rattle.logic.specs.Entries.{Faultless, Bare};
 ghost use Rattle.logic.specs.Closing.{placed, placed_form, OneChild, TwoChildren, NoInclusion};
+ghost use Rattle.labels.specs.Ruled.{ruled};
+ghost use Rattle.labels.specs.Labelled.{labelled};
 ghost use Rattle.closing.specs.Entered.{entry_read};
 
 use labels::label::Label;
@@ -19,7 +21,7 @@ pub fn bare(head: Head) -> bool
 }
 
 // An entry of a sheet of either kind: what it says besides its label, whether it and all its lines lie in the store, and the lines of its label that do.
-#[derive(Clone, Drop)]
+#[derive(Clone, Copy)]
 pub struct EntryRead<'a> {
     pub head: Head,
     pub lies: bool,
@@ -29,7 +31,7 @@ pub struct EntryRead<'a> {
 impl<'a> EntryRead<'a> {
     // Whether the entry is without fault: it lies in the store, its lines rise, its bounds keep their range, and its concepts stand in the book.
     pub fn faultless(&self, rules: &Rules<'_>) -> bool
-        ensures { Decides result (Faultless rules.now (entry_read self.now)) }
+        ensures { Decides result (Faultless (ruled rules.now) (entry_read self.now)) }
     {
         self.lies
             && self.label.rises()
@@ -51,14 +53,14 @@ pub struct ClosingEntry<'a> {
 impl<'a> ClosingEntry<'a> {
     // The line at the entry's place, if there is one.
     pub fn line_at_place(&self) -> Option<Line>
-        ensures { let label = self.now.ruled.label.now in MatchOption result (length label ≤ self.now.head.place) (λ l. (self.now.head.place < length label) × (l ≡ placed self.now.head label)) }
+        ensures { let label = labelled self.now.ruled.label.now in MatchOption result (length label ≤ self.now.head.place) (λ l. (self.now.head.place < length label) × (l ≡ placed self.now.head label)) }
     {
         self.ruled.label.lines().get(self.head.place).copied()
     }
 
     // The concept of that line.
     pub fn form_at_place(&self) -> Option<Concept>
-        ensures { let label = self.now.ruled.label.now in MatchOption result (length label ≤ self.now.head.place) (λ form. (self.now.head.place < length label) × (form ≡ placed_form self.now.ruled.rules.now self.now.head label)) }
+        ensures { let label = labelled self.now.ruled.label.now in MatchOption result (length label ≤ self.now.head.place) (λ form. (self.now.head.place < length label) × (form ≡ placed_form (ruled self.now.ruled.rules.now) self.now.head label)) }
     {
         let line = self.line_at_place()?;
         Some(self.ruled.rules.concept(line.concept))
@@ -66,21 +68,21 @@ impl<'a> ClosingEntry<'a> {
 
     // Whether a line of the label stands at the entry's place.
     pub fn has_place(&self) -> bool
-        ensures { Decides result (self.now.head.place < length self.now.ruled.label.now) }
+        ensures { Decides result (self.now.head.place < length (labelled self.now.ruled.label.now)) }
     {
         self.head.place < self.ruled.label.lines().len()
     }
 
     // The line at the entry's place; past the last, 'concept 0 at least 0'.
     pub fn placed(&self) -> Line
-        ensures { result ≡ placed self.now.head self.now.ruled.label.now }
+        ensures { result ≡ placed self.now.head (labelled self.now.ruled.label.now) }
     {
         self.line_at_place().unwrap_or_default()
     }
 
     // The concept of that line.
     pub fn placed_form(&self) -> Concept
-        ensures { result ≡ placed_form self.now.ruled.rules.now self.now.head self.now.ruled.label.now }
+        ensures { result ≡ placed_form (ruled self.now.ruled.rules.now) self.now.head (labelled self.now.ruled.label.now) }
     {
         self.ruled.rules.concept(self.placed().concept)
     }

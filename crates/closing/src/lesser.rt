@@ -2,6 +2,8 @@
 ghost use Rattle.std.specs.Prelude.{Decides};
 ghost use Rattle.logic.specs.Books.{concept_at};
 ghost use Rattle.logic.specs.Closing.{Splits, LesserAtMost, LesserRule};
+ghost use Rattle.labels.specs.Ruled.{ruled};
+ghost use Rattle.labels.specs.Labelled.{labelled};
 
 use crate::entry::ClosingEntry;
 use logic::claim::Claim;
@@ -11,7 +13,7 @@ use terms::line::{Line, Side};
 impl<'a> ClosingEntry<'a> {
     // Of the line l on 'the lesser of c and d at most z', whether the first child adds 'c at most z' and the second 'd at most z'.
     fn splits(&self, l: Line) -> bool
-        ensures { Decides result (Splits (concept_at self.now.ruled.rules.now l.concept) l.bound self.now.ruled.label.now self.now.first.now self.now.second.now) }
+        ensures { Decides result (Splits (concept_at (ruled self.now.ruled.rules.now) l.concept) l.bound (labelled self.now.ruled.label.now) self.now.first.now self.now.second.now) }
     {
         let bound = l.bound as i64;
         let label = self.ruled.label;
@@ -26,7 +28,7 @@ impl<'a> ClosingEntry<'a> {
 
     // At most: whether two children divide the line at the place.
     pub fn lesser_at_most(&self) -> bool
-        ensures { Decides result (LesserAtMost self.now.ruled.rules.now self.now.number self.now.head self.now.ruled.label.now self.now.first.now self.now.second.now) }
+        ensures { Decides result (LesserAtMost (ruled self.now.ruled.rules.now) self.now.number self.now.head (labelled self.now.ruled.label.now) self.now.first.now self.now.second.now) }
     {
         let Some(line) = self.line_at_place() else {
             return false;
@@ -36,7 +38,7 @@ impl<'a> ClosingEntry<'a> {
 
     // M: whether one child adds both conclusions of an at-least line, or two children divide an at-most line.
     pub fn lesser_rule(&self) -> bool
-        ensures { Decides result (LesserRule self.now.ruled.rules.now self.now.number self.now.head self.now.ruled.label.now self.now.first.now self.now.second.now) }
+        ensures { Decides result (LesserRule (ruled self.now.ruled.rules.now) self.now.number self.now.head (labelled self.now.ruled.label.now) self.now.first.now self.now.second.now) }
     {
         let Some(line) = self.line_at_place() else {
             return false;
