@@ -1,5 +1,6 @@
 // A sheet that is judged against a book and a question.
 ghost use Rattle.std.specs.Prelude.{◌≡◌, Decides, MatchOption};
+ghost use Rattle.labels.specs.Ruled.{ruled};
 ghost use Rattle.book.specs.Models.{model};
 ghost use Rattle.question.specs.Asked.{asked};
 ghost use Rattle.judge.specs.Views.{rules_of, sheet_of};
@@ -21,7 +22,7 @@ const MOST_STANDING: usize = 64;
 
 // The fineness, concepts and inclusions of a book.
 pub fn rules_of(book: &Book) -> Rules<'_>
-    ensures { result ≡ rules_of (model book.now) }
+    ensures { ruled result ≡ rules_of (model book.now) }
 {
     Rules::new(book.fineness(), book.concepts(), book.inclusions())
 }
@@ -39,7 +40,7 @@ pub struct Case<'c, 's> {
 impl<'c, 's> Case<'c, 's> {
     // A finished sheet against a book and a question.
     pub fn new(book: &'c Book, question: &'c Question, sheet: &'c Finished<'s>) -> Case<'c, 's>
-        ensures rules { result.rules ≡ rules_of (model book.now) }
+        ensures rules { ruled result.rules ≡ rules_of (model book.now) }
         ensures question { result.question.now ≡ asked question.now }
         ensures kind { result.kind ≡ sheet.now.kind }
         ensures root { result.root ≡ sheet.now.root }
@@ -56,7 +57,7 @@ impl<'c, 's> Case<'c, 's> {
 
     // Whether the entry k obeys the rules of a sheet of the kind.
     pub fn obeys(&self, k: usize) -> bool
-        ensures { Decides result (Obeys self.now.kind self.now.rules self.now.entries k) }
+        ensures { Decides result (Obeys self.now.kind (ruled self.now.rules) self.now.entries k) }
     {
         match self.kind {
             Kind::Closing => self.closes(k),
@@ -66,14 +67,14 @@ impl<'c, 's> Case<'c, 's> {
 
     // The lowest entry that breaks a rule.
     pub fn first_breaking(&self) -> Option<usize>
-        ensures { MatchOption result (AllObey self.now.kind self.now.rules self.now.entries) (FirstBreaks self.now.kind self.now.rules self.now.entries) }
+        ensures { MatchOption result (AllObey self.now.kind (ruled self.now.rules) self.now.entries) (FirstBreaks self.now.kind (ruled self.now.rules) self.now.entries) }
     {
         (0..self.entries.count()).find(|k| !self.obeys(*k))
     }
 
     // Whether the root is an entry and fits the question.
     pub fn root_fits(&self) -> bool
-        ensures { Decides result (RootFits self.now.kind self.now.rules self.now.question.now self.now.entries self.now.root) }
+        ensures { Decides result (RootFits self.now.kind (ruled self.now.rules) self.now.question.now self.now.entries self.now.root) }
     {
         match self.kind {
             Kind::Closing => self.closing_fits(),
@@ -90,7 +91,7 @@ impl<'c, 's> Case<'c, 's> {
 
     // The verdict, but for the retest of the question.
     pub(crate) fn weigh(&self) -> Result<Verdict, Refused>
-        ensures { Weighed self.now.rules self.now.question.now self.now.kind self.now.entries self.now.root result }
+        ensures { Weighed (ruled self.now.rules) self.now.question.now self.now.kind self.now.entries self.now.root result }
     {
         if self.question.is_empty() {
             return Err(Refusal::NoLines.into());

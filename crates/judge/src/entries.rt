@@ -1,6 +1,7 @@
 // The entries of a finished sheet, as the tests read them.
 ghost use Rattle.std.specs.Prelude.{◌≡◌, length, slice_index_or};
 ghost use Rattle.logic.specs.Entries.{entry_at, label_at};
+ghost use Rattle.labels.specs.Labelled.{labelled};
 ghost use Rattle.closing.specs.Entered.{entry_read};
 ghost use Rattle.sheet.specs.Entries.{zero_slot};
 ghost use Rattle.judge.specs.Views.{sheet_of};
@@ -77,7 +78,7 @@ impl<'s, 'a> Entries<'s, 'a> {
 
     // The label of an entry.
     pub fn label(&self, k: usize) -> Label<'s>
-        ensures { result ≡ label_at self.now k }
+        ensures { labelled result ≡ label_at self.now k }
     {
         Label::new(self.lines(k))
     }

@@ -5,6 +5,8 @@ ghost use Rattle.logic.specs.Lines.{EachLine, Carries, half_line};
 ghost use Rattle.logic.specs.Entries.{label_at};
 ghost use Rattle.logic.specs.Closing.{ClosingFits};
 ghost use Rattle.logic.specs.Standing.{StandingFits};
+ghost use Rattle.labels.specs.Ruled.{ruled};
+ghost use Rattle.labels.specs.Labelled.{labelled};
 
 use crate::case::Case;
 use closing::root::root_asks;
@@ -13,12 +15,12 @@ use logic::claim::Claim;
 use terms::question::QuestionLine;
 
 // Whether a label under the rules of a book carries each line of the question.
-fn carries_all_asked(ruled: &Ruled<'_>, question: &[QuestionLine]) -> bool
-    ensures { Decides result (EachAsked (λ q. Carries ruled.now.rules.now.fineness ruled.now.label.now (half_line q)) question.now) }
+fn carries_all_asked(tested: &Ruled<'_>, question: &[QuestionLine]) -> bool
+    ensures { Decides result (EachAsked (λ q. Carries (ruled tested.now.rules.now).fineness (labelled tested.now.label.now) (half_line q)) question.now) }
 {
     question
         .iter()
-        .all(|asked| ruled.carries(Claim::from(*asked)))
+        .all(|asked| tested.carries(Claim::from(*asked)))
 }
 
 impl<'c, 's> Case<'c, 's> {
@@ -38,7 +40,7 @@ impl<'c, 's> Case<'c, 's> {
 
     // Whether the root of a standing sheet is an entry, and carries each question line.
     pub fn standing_fits(&self) -> bool
-        ensures { Decides result (StandingFits self.now.rules self.now.question.now self.now.entries self.now.root) }
+        ensures { Decides result (StandingFits (ruled self.now.rules) self.now.question.now self.now.entries self.now.root) }
     {
         let label = self.entries.label(self.root);
         let ruled = Ruled {

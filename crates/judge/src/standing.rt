@@ -5,6 +5,8 @@ ghost use Rattle.logic.specs.Lines.{EachLine};
 ghost use Rattle.logic.specs.Entries.{label_at, AnyEntry};
 ghost use Rattle.logic.specs.Clashes.{Clashes};
 ghost use Rattle.logic.specs.Standing.{CarriesConclusions, KeepsInclusion, Serves, Served, Settled, Stands};
+ghost use Rattle.labels.specs.Ruled.{ruled};
+ghost use Rattle.labels.specs.Labelled.{labelled};
 
 use crate::case::Case;
 use closing::entry::bare;
@@ -15,16 +17,16 @@ use terms::entry::Letter;
 use terms::line::Line;
 
 // Whether a label keeps what one of a standing sheet does, whatever the other entries.
-fn settled_alone(ruled: &Ruled<'_>) -> bool
-    ensures { let b = ruled.now.rules.now in let label = ruled.now.label.now in Decides result (¬ Clashes b label × EachLine (CarriesConclusions b label) label × EachInclusion (KeepsInclusion b.fineness label) b) }
+fn settled_alone(tested: &Ruled<'_>) -> bool
+    ensures { let b = ruled tested.now.rules.now in let label = labelled tested.now.label.now in Decides result (¬ Clashes b label × EachLine (CarriesConclusions b label) label × EachInclusion (KeepsInclusion b.fineness label) b) }
 {
-    !ruled.clashes() && ruled.carries_all_conclusions() && ruled.keeps_inclusions()
+    !tested.clashes() && tested.carries_all_conclusions() && tested.keeps_inclusions()
 }
 
 impl<'c, 's> Case<'c, 's> {
     // Whether the entry k carries all that is passed on from the label `from`.
     fn serves(&self, k: usize, from: &[Line], z: Reach) -> bool
-        ensures { Decides result (Serves self.now.rules from.now z.role z.part z.bound (label_at self.now.entries k)) }
+        ensures { Decides result (Serves (ruled self.now.rules) from.now z.role z.part z.bound (label_at self.now.entries k)) }
     {
         let label = self.entries.label(k);
         let ruled = Ruled {
@@ -36,14 +38,14 @@ impl<'c, 's> Case<'c, 's> {
 
     // Whether some entry does.
     fn some_serves(&self, from: &[Line], z: Reach) -> bool
-        ensures { Decides result (AnyEntry (λ e. Serves self.now.rules from.now z.role z.part z.bound e.label) self.now.entries) }
+        ensures { Decides result (AnyEntry (λ e. Serves (ruled self.now.rules) from.now z.role z.part z.bound e.label) self.now.entries) }
     {
         (0..self.entries.count()).any(|k| self.serves(k, from, z))
     }
 
     // Whether some entry serves the line, if it leads to one.
     pub fn served(&self, label: &[Line], l: Line) -> bool
-        ensures { Decides result (Served self.now.rules self.now.entries label.now l) }
+        ensures { Decides result (Served (ruled self.now.rules) self.now.entries label.now l) }
     {
         match self.rules.reach(l) {
             Some(z) => self.some_serves(label, z),
@@ -52,14 +54,14 @@ impl<'c, 's> Case<'c, 's> {
     }
 
     fn all_served(&self, label: &[Line]) -> bool
-        ensures { Decides result (EachLine (Served self.now.rules self.now.entries label.now) label.now) }
+        ensures { Decides result (EachLine (Served (ruled self.now.rules) self.now.entries label.now) label.now) }
     {
         label.iter().all(|l| self.served(label, *l))
     }
 
     // Whether a label keeps what one of a standing sheet does.
     pub fn settled(&self, label: &Label<'_>) -> bool
-        ensures { Decides result (Settled self.now.rules self.now.entries label.now) }
+        ensures { Decides result (Settled (ruled self.now.rules) self.now.entries (labelled label.now)) }
     {
         let ruled = Ruled {
             rules: &self.rules,
@@ -70,7 +72,7 @@ impl<'c, 's> Case<'c, 's> {
 
     // Whether the entry k is without fault, has the letter L and no field, and a settled label.
     pub fn stands(&self, k: usize) -> bool
-        ensures { Decides result (Stands self.now.rules self.now.entries k) }
+        ensures { Decides result (Stands (ruled self.now.rules) self.now.entries k) }
     {
         let entry = self.entries.entry(k);
         entry.faultless(&self.rules)

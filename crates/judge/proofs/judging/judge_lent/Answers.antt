@@ -1,10 +1,7 @@
-use Rattle.std.proofs.Common.{Err, sym, ap, ◌∙◌, subst}
-use Rattle.std.proofs.lemmas.Result.{err_from_is_err_and}
 use Rattle.book.specs.Models.{model}
 use Rattle.question.specs.Asked.{asked}
-use Rattle.judge.specs.Verdicts.{Judged}
 use Rattle.judge.proofs.Properly.{every_book_is_proper}
-use Rattle.judge.proofs.Weighing.{by_retest, by_weighing, exact}
+use Rattle.judge.proofs.Weighing.{by_weighing, exact}
 use Rattle.judge.proofs.judging.judge_lent.Goals as goal
 
 pub returns : goal.returns
