@@ -49,6 +49,7 @@ impl<'a> Label<'a> {
     }
 
     // Whether each line stands before the next.
+    #[tactic(auto, using(crate::proofs::Knowing::falls))]
     pub fn rises(&self) -> bool
         ensures { Decides result (Rises (labelled self.now)) }
     {
