@@ -15,7 +15,7 @@ use denote.Param.Members.{Mut}
 use Rattle.row.specs.Order.{Ascending, Missing}
 use Rattle.row.specs.Search.{SearchSorted}
 use Rattle.terms.specs.Lines.{line_order}
-use Rattle.terms.proofs.LineOrderLaws.{line_order_agrees}
+use Rattle.terms.specs.LineOrderLaws.{line_order_agrees}
 use Rattle.terms.specs.declared.line.Side.{Side}
 use Rattle.terms.specs.declared.line.Side.TheVariants.{AtLeast, AtMost}
 use Rattle.terms.specs.declared.line.Line.{Line}

@@ -6,12 +6,12 @@ use Rattle.std.specs.Ordering.{MatchOrdering, ordering_then, nat_cmp, int_cmp}
 use Rattle.std.specs.Cmp.{IsTotalOrder, ranks, nat_cmp_is, int_ranks, int_cmp_is}
 use Rattle.std.proofs.lemmas.Map.Keys.{sorted_from_all_adjacent, Less-from_sorted}
 use Rattle.row.specs.Order.{Ascending}
-use Rattle.row.proofs.Numbers.{nat_cmp_agrees}
+use Rattle.row.specs.Numbers.{nat_cmp_agrees}
 use Rattle.terms.specs.declared.line.Side.{Side}
 use Rattle.terms.specs.declared.line.Side.TheVariants.{AtLeast, AtMost}
 use Rattle.terms.specs.declared.line.Line.{Line}
 use Rattle.terms.specs.Lines.{line_order, side_number}
-use Rattle.terms.proofs.LineOrderLaws.{line_order_total, line_order_transitive, line_order_agrees}
+use Rattle.terms.specs.LineOrderLaws.{line_order_total, line_order_transitive, line_order_agrees}
 use Rattle.logic.specs.Lines.{line_at, blank_line}
 use Rattle.logic.specs.Entries.{BeforeSide, Before, Rises}
 

@@ -12,7 +12,7 @@ use Rattle.names.specs.Letters.{letters}
 use Rattle.names.specs.Order.{record_order}
 use Rattle.names.specs.Numbered.{Numbered, Listed}
 use Rattle.names.specs.Kept.{NamesKept, EveryListKeepsNames}
-use Rattle.names.proofs.Lexical.{lex_from_same}
+use Rattle.names.specs.Lexical.{lex_from_same}
 
 module _ (names : List Name) (row : List NameRecord) (up : Ascending record_order row) (numbered : Numbered names row) (listed : Listed names row) (d : NameRecord) where
   -- the record at a place has the name of its number

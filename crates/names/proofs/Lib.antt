@@ -1,3 +1,2 @@
-pub mod Lexical
 pub mod Numbers
 pub mod Differing

@@ -16,7 +16,7 @@ use Rattle.terms.specs.Among.{Among}
 use Rattle.names.specs.Letters.{letters}
 use Rattle.names.specs.Order.{record_order}
 use Rattle.names.specs.Numbered.{Numbered, Listed}
-use Rattle.names.proofs.Lexical.{same_from_lex, lex_from_same}
+use Rattle.names.specs.Lexical.{same_from_lex, lex_from_same}
 
 -- what the type of a list says of its names and records
 abbrev pub Kept : List Name → List NameRecord → Type 0

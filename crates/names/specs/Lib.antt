@@ -5,3 +5,4 @@ pub mod Numbered
 pub mod Texts
 pub mod Entering
 pub mod Kept
+pub mod Lexical

@@ -3,6 +3,7 @@ ghost use Rattle.names.specs.Spelling.{NoName};
 
 use arrayvec::ArrayString;
 
+mod order;
 mod spelling;
 
 // The most letters of a name.

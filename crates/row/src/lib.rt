@@ -1,4 +1,4 @@
-// Rows of elements in strict order (sorted arrays without equal elements), over slices that are lent. The order is one whose laws the element type shows, as each type that is `Ord` does.
+// Rows of elements in strict order (sorted arrays without equal elements), over slices that are lent. The order is one whose laws the element type shows.
 #![tactic(auto)]
 
 ghost use Rattle.std.specs.Prelude.{◌≤◌, length};

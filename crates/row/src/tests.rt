@@ -1,12 +1,10 @@
 // Rows over an array that an owner lends for each call.
-ghost use Rattle.std.specs.Prelude.{◌≡◌, ℕ, ◌+◌, ◌<◌, ◌≤◌, length, take, drop, is_ok, if◌then◌else◌};
+ghost use Rattle.std.specs.Prelude.{◌≡◌, ℕ, ◌+◌, ◌≤◌, length, take, drop, is_ok, if◌then◌else◌};
 ghost use Rattle.row.specs.Order.{Ascending};
 ghost use Rattle.row.specs.Placing.{InsertOutcome, InsertSorted};
-ghost use Rattle.std.specs.declared.cmp.Ordering.{Ordering};
-ghost use Rattle.std.specs.declared.cmp.Ordering.TheVariants.{Equal};
-ghost use Rattle.std.specs.Ordering.{MatchOrdering, nat_cmp};
-ghost use Rattle.std.specs.Cmp.{nat_cmp_total, ranks, tied_itself};
-ghost use Rattle.std.proofs.Common.{subst};
+ghost use Rattle.std.specs.Ordering.{nat_cmp};
+ghost use Rattle.std.specs.Cmp.{nat_cmp_total};
+ghost use Rattle.row.specs.Numbers.{nat_cmp_agrees};
 
 use crate::{Ordered, Row, Unplaced, search};
 use std::cmp::Ordering;
@@ -29,7 +27,7 @@ impl Ordered for Card {
 
     ghost transitive = { λ x y z. nat_cmp_total.trans x.number y.number z.number };
 
-    ghost agrees = { λ x y. (λ e. subst (λ (o : Ordering). MatchOrdering o (x.number < y.number) (x.number ≡ y.number) (y.number < x.number)) e (ranks x.number y.number), λ e. subst (λ (n : ℕ). nat_cmp x.number n ≡ Equal) e (tied_itself nat_cmp_total x.number)) };
+    ghost agrees = { λ x y. nat_cmp_agrees x.number y.number };
 
     fn compare(&self, other: &Card) -> Ordering {
         self.number.cmp(&other.number)

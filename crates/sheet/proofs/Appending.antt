@@ -1,9 +1,6 @@
 -- A line appended to the row that part of a store is.
-use Rattle.std.proofs.Math.Path.{fun_ext}
-use Rattle.std.specs.declared.cmp.Ordering.{Ordering}
 use Rattle.std.specs.Result.{result_ok}
-use Rattle.terms.specs.contracts.line.LineOrd.TheImpl as line_ord
-use Rattle.std.proofs.Common.{◌≡◌, ℕ, ◌+◌, ◌-◌, ◌<◌, ◌≤◌, min, Bool, true, false, cond, List, [], ◌∷◌, ◌++◌, length, take, drop, set, is_ok, Ok, Err, Result, Option, sym, refl, ap, ◌∙◌, subst, ap₂, zero-add, inl, ⊎_elim, arith, rules}
+use Rattle.std.proofs.Common.{◌≡◌, ℕ, ◌+◌, ◌-◌, ◌<◌, ◌≤◌, min, Bool, true, false, cond, List, [], ◌∷◌, ◌++◌, length, take, drop, set, is_ok, Ok, Err, Result, Option, sym, refl, ap, ◌∙◌, subst, ap₂, zero-add, inl, ⊎_elim, arith}
 use borrow.Rule.Slice.PartMut.{put_mid}
 use Rattle.std.proofs.lemmas.List.{take-append-drop, take_more_set, drop-set-lt, drop-set-add, take-set-le, length-take-le, length-drop, drop_all, drop_at, append-nil, take_rest}
 use Rattle.row.specs.declared.Row.{Row}
@@ -16,10 +13,6 @@ use Rattle.terms.specs.declared.line.Line.{Line}
 use Rattle.terms.specs.Lines.{line_order, zero_line, BoundOutside}
 use Rattle.sheet.specs.Entries.{part}
 use Rattle.sheet.specs.Labels.{Appended, LineEnteredIn}
-
--- the derived order of lines is theirs
-derived_order : line_ord.ghosts.cmp ≡ line_order
-derived_order = fun_ext (λ (l : Line). fun_ext (λ (m : Line). search rules))
 
 -- what a row was over tells what its slots become
 module _ (x : Line) (n : ℕ) (slots after : List Line) (r r' : Row Line) (fits : n ≤ length slots)
@@ -46,10 +39,8 @@ module _ (x : Line) (n : ℕ) (slots after : List Line) (r r' : Row Line) (fits 
       sym (take-append-drop (n + 1) after) ∙ ap₂ ◌++◌ first rest ∙ take-append-drop (n + 1) S ∙ ap (λ (m : ℕ). set slots m x) (sym (zero-add n))
   row_slots (Err e) o k = back ∙ k.refused refl ∙ slots-is
 
-  pub appended_row : (res : Result ℕ Unplaced) → AppendOutcome line_ord.ghosts.cmp x (items r) (room r) (items r') res → (Ascending line_ord.ghosts.cmp (items r) → Ascending line_ord.ghosts.cmp (items r')) → Kept r r' (is_ok res) → Appended x 0 n slots after res
-  appended_row res given rising k =
-      let o = subst (λ (f : Line → Line → Ordering). AppendOutcome f x (items r) (room r) (items r') res) derived_order given in
-      let up = subst (λ (f : Line → Line → Ordering). Ascending f (items r) → Ascending f (items r')) derived_order rising in
+  pub appended_row : (res : Result ℕ Unplaced) → AppendOutcome line_order x (items r) (room r) (items r') res → (Ascending line_order (items r) → Ascending line_order (items r')) → Kept r r' (is_ok res) → Appended x 0 n slots after res
+  appended_row res o up k =
       let size : room r ≡ length slots - 0 = omega (arith, ap length slots-is) in
       record {
         outcome =

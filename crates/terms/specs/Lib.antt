@@ -4,3 +4,4 @@ pub mod Among
 pub mod Words
 pub mod Lines
 pub mod Showing
+pub mod LineOrderLaws

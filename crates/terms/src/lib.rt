@@ -5,6 +5,7 @@ pub mod concept;
 pub mod entry;
 pub mod laws;
 pub mod line;
+pub mod order;
 pub mod question;
 pub mod refusal;
 pub mod showing;

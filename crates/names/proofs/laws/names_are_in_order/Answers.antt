@@ -1,7 +1,7 @@
 use Rattle.std.specs.Cmp.{nat_cmp_total}
 use Rattle.std.specs.Cmp.Lexicographic.{lists_total}
 use Rattle.names.specs.Letters.{letters}
-use Rattle.names.proofs.Lexical.{same_from_lex, lex_from_same}
+use Rattle.names.specs.Lexical.{same_from_lex, lex_from_same}
 use Rattle.names.proofs.laws.names_are_in_order.Goals as goal
 
 pub returns-clause-laws : goal.returns-clause-laws

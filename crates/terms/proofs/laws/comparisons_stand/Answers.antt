@@ -1,4 +1,4 @@
-use Rattle.terms.proofs.LineOrderLaws.{line_order_total, line_order_transitive, line_order_agrees}
+use Rattle.terms.specs.LineOrderLaws.{line_order_total, line_order_transitive, line_order_agrees}
 use Rattle.terms.proofs.laws.comparisons_stand.Goals as goal
 
 pub returns-clause-laws : goal.returns-clause-laws

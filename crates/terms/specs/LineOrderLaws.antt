@@ -5,7 +5,7 @@ use Rattle.std.specs.declared.cmp.Ordering.{Ordering}
 use Rattle.std.specs.declared.cmp.Ordering.TheVariants.{Less, Equal, Greater}
 use Rattle.std.specs.Ordering.{ordering_then, ordering_reverse, is_eq, is_lt, is_gt, nat_cmp, int_cmp}
 use Rattle.std.specs.Cmp.{IsTotalOrder, nat_cmp_total, int_cmp_total, signed_Decides, then_total, on_total, tied_itself}
-use Rattle.row.proofs.Numbers.{nat_cmp_agrees}
+use Rattle.row.specs.Numbers.{nat_cmp_agrees}
 use Rattle.terms.specs.declared.line.Side.{Side}
 use Rattle.terms.specs.declared.line.Side.TheVariants.{AtLeast, AtMost}
 use Rattle.terms.specs.declared.line.Line.{Line}
