@@ -1,5 +1,3 @@
 mod Ends
 mod Stores
 mod Appending
-mod Entered
-pub mod Same

@@ -1,6 +1,5 @@
 -- What calls leave of a store's slots.
-use Rattle.std.proofs.Common.{◌≡◌, ℕ, ◌+◌, ◌-◌, ◌<◌, ◌≤◌, min, List, [], ◌∷◌, ◌++◌, map, length, take, drop, set, replicate, sym, ap, ◌∙◌, ap₂, arith}
-use borrow.Rule.Slice.PartMut.{put_mid}
+use Rattle.std.proofs.Common.{◌≡◌, ℕ, ◌+◌, ◌-◌, ◌<◌, ◌≤◌, min, List, [], ◌∷◌, ◌++◌, map, length, take, drop, set, replicate, sym, ap, ◌∙◌, arith}
 use Rattle.std.proofs.lemmas.List.{length-map, length-take, length-set, length-drop, length-append, length-replicate, length-take-le, take_at, drop_at, drop-drop, drop-replicate, drop-set-lt, take_more_set, map_push, append_assoc, replicate-append-replicate}
 use Rattle.terms.specs.declared.line.Line.{Line}
 use Rattle.sheet.specs.declared.EntrySlot.{EntrySlot}
@@ -16,14 +15,6 @@ module _ {X : Type 0} (y : X) (xs : List X) (k n : ℕ) (fits : k + n ≤ length
   wiped_is =
       let m : min n (length xs - k) ≡ n = omega arith in
       ap (λ (i : ℕ). take k xs ++ replicate i y ++ drop (k + i) xs) m
-
-  -- what a store becomes where its slots from number k to k + n are all made y
-  pub wiped_mid : (zs : List X) → zs ≡ replicate (length (take (k + n - k) (drop k xs))) y → put_mid k (k + n - k) xs zs ≡ wiped y xs k n
-  wiped_mid zs e =
-      let m : length (take (k + n - k) (drop k xs)) ≡ n = omega (arith, length-take (k + n - k) (drop k xs), length-drop k xs) in
-      let d : k + n - k ≡ n = omega arith in
-      let rest : drop (k + n - k) (drop k xs) ≡ drop (k + n) xs = ap (λ (i : ℕ). drop i (drop k xs)) d ∙ drop-drop n k xs in
-      ap₂ (λ (zs ys : List X). take k xs ++ (zs ++ ys)) (e ∙ ap (λ (i : ℕ). replicate i y) m) rest ∙ sym (append_assoc (take k xs) (replicate n y) (drop (k + n) xs)) ∙ sym wiped_is
 
   pub wiped_length : length (wiped y xs k n) ≡ length xs
   wiped_length =

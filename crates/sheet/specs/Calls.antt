@@ -1,6 +1,5 @@
 -- What each call on a sheet answers and leaves: slot by slot, and on the list of filed entries.
-use Rattle.std.specs.Prelude.{◌≡◌, ℕ, ◌+◌, min, List, [], ◌∷◌, ◌++◌, length, take, replicate, Ok, Err, Result, slice_set}
-use Rattle.std.specs.Borrow.{MutBor}
+use Rattle.std.specs.Prelude.{◌≡◌, ℕ, ◌+◌, ◌≤◌, min, List, [], ◌∷◌, ◌++◌, length, take, replicate, Ok, Err, Result, slice_set}
 use Rattle.row.specs.Order.{Ascending}
 use Rattle.terms.specs.declared.entry.Head.{Head}
 use Rattle.terms.specs.declared.entry.Kind.{Kind}
@@ -12,9 +11,9 @@ use Rattle.sheet.specs.declared.Sheet.{Sheet}
 use Rattle.sheet.specs.declared.Begun.{Begun}
 use Rattle.sheet.specs.declared.Finished.{Finished}
 use Rattle.sheet.specs.declared.unchanged.Unchanged.{Unchanged}
-use Rattle.sheet.specs.declared.unchanged.Store.{Store}
+use Rattle.sheet.specs.declared.not_taken.NotTaken.{NotTaken}
 use Rattle.sheet.specs.Entries.{zero_slot, last_end, wiped}
-use Rattle.sheet.specs.Sheets.{filed, filed_beside, filed_finished, label_of, CleanSheet, CleanBegun}
+use Rattle.sheet.specs.Sheets.{filed, filed_beside, filed_finished, label_of, Sound, SoundBegun, CleanSheet, CleanBegun}
 use Rattle.sheet.specs.Grounds.{Call, an_entry, a_line, finishing, taking, Accepted, RefusedWith}
 
 -- a sheet begun blank in the slots es and ls: each slot is zero, and nothing is filed
@@ -24,6 +23,7 @@ pub record Blank (es : List EntrySlot) (ls : List Line) (s : Sheet) : Type 0 whe
   pub used : s.used ≡ 0
   pub written : s.written ≡ 0
   pub filed_is : filed s ≡ []
+  pub sound : Sound s
   pub clean : CleanSheet s
 
 -- ---- begin
@@ -31,39 +31,42 @@ pub record Blank (es : List EntrySlot) (ls : List Line) (s : Sheet) : Type 0 whe
 abbrev pub beginning : Sheet → Head → Call
 beginning s h = an_entry (length s.entries.now) (length (filed s)) h
 
--- the sheet with an entry begun that has no line yet, and what that means: nothing is filed, and the label is empty
-pub record BegunOn (s : Sheet) (h : Head) (b : Begun) : Type 0 where
-  pub sheet : b.sheet ≡ s
-  pub head : b.head ≡ h
-  pub count : b.count ≡ 0
+-- the same store, with an entry begun that has no line yet
+abbrev pub begun : Sheet → Head → Begun
+begun s h = record { entries = s.entries; lines = s.lines; used = s.used; head = h; from = s.written; count = 0 }
+
+-- what beginning means: nothing is filed, and the label is empty
+pub record BegunOn (s : Sheet) (b : Begun) : Type 0 where
   pub filed_is : filed_beside b ≡ filed s
   pub label_is : label_of b ≡ []
+  pub sound : Sound s → SoundBegun b
   pub clean : CleanSheet s → CleanBegun b
 
 -- accepted: the entry is begun; refused: the sheet is as it was
 abbrev pub BeginAnswer : Sheet → Head → Result Begun (Unchanged Sheet) → Type 0
-BeginAnswer s h (Ok b) = Accepted (beginning s h) × BegunOn s h b
+BeginAnswer s h (Ok b) = Accepted (beginning s h) × (b ≡ begun s h) × BegunOn s b
 BeginAnswer s h (Err u) = RefusedWith (beginning s h) u.refused × (u.value ≡ s)
 
 -- ---- enter a line
 
 abbrev pub entering : Begun → Line → Call
-entering b x = a_line (length b.sheet.lines.now) (b.sheet.written + b.count) (label_of b) x
+entering b x = a_line (length b.lines.now) (b.from + b.count) (label_of b) x
 
 pub record LineEntered (b : Begun) (x : Line) (k : ℕ) (b' : Begun) : Type 0 where
   -- slot by slot: the first free line slot holds the line
-  pub lines : b'.sheet.lines.now ≡ slice_set b.sheet.lines.now (b.sheet.written + b.count) x
-  pub lent : b'.sheet.lines.ghost_name ≡ b.sheet.lines.ghost_name
-  pub entries : b'.sheet.entries ≡ b.sheet.entries
-  pub used : b'.sheet.used ≡ b.sheet.used
+  pub lines : b'.lines.now ≡ slice_set b.lines.now (b.from + b.count) x
+  pub lent : b'.lines.ghost_name ≡ b.lines.ghost_name
+  pub entries : b'.entries ≡ b.entries
+  pub used : b'.used ≡ b.used
   pub head : b'.head ≡ b.head
-  pub from : b'.sheet.written ≡ b.sheet.written
+  pub from : b'.from ≡ b.from
   pub count : b'.count ≡ b.count + 1
   -- what it means: the label has one line more, whose number k is the answer, and nothing is filed
   pub number : k ≡ length (label_of b)
   pub label_is : label_of b' ≡ label_of b ++ x ∷ []
   pub rising : Ascending line_order (label_of b) → Ascending line_order (label_of b')
-  pub filed_is : filed_beside b' ≡ filed_beside b
+  pub filed_is : SoundBegun b → filed_beside b' ≡ filed_beside b
+  pub sound : SoundBegun b → SoundBegun b'
   pub clean : CleanBegun b → CleanBegun b'
 
 -- accepted: the line is entered; refused: the entry begun and the store are as they were
@@ -74,65 +77,62 @@ LineAnswer b x (Err e) b' = RefusedWith (entering b x) e × (b' ≡ b)
 -- ---- file, strike
 
 abbrev pub slot_of : Begun → EntrySlot
-slot_of b = record { head = b.head; start = b.sheet.written; count = b.count }
+slot_of b = record { head = b.head; start = b.from; count = b.count }
 
 pub record EntryFiled (b : Begun) (s : Sheet) : Type 0 where
-  -- slot by slot: the first free entry slot holds the entry
-  pub entries : s.entries.now ≡ slice_set b.sheet.entries.now b.sheet.used (slot_of b)
-  pub lent : s.entries.ghost_name ≡ b.sheet.entries.ghost_name
-  pub lines : s.lines ≡ b.sheet.lines
-  pub used : s.used ≡ b.sheet.used + 1
-  pub written : s.written ≡ b.sheet.written + b.count
+  -- slot by slot: the first free entry slot holds the entry; the counts are held to the store
+  pub entries : s.entries.now ≡ slice_set b.entries.now b.used (slot_of b)
+  pub lent : s.entries.ghost_name ≡ b.entries.ghost_name
+  pub lines : s.lines ≡ b.lines
+  pub used : s.used ≡ min (b.used + 1) (length b.entries.now)
+  pub written : s.written ≡ min (b.from + b.count) (length b.lines.now)
   -- what it means: one entry more is filed, with the label begun
-  pub filed_is : filed s ≡ filed_beside b ++ record { head = b.head; label = label_of b } ∷ []
-  pub clean : CleanBegun b → CleanSheet s
+  pub filed_is : SoundBegun b → filed s ≡ filed_beside b ++ record { head = b.head; label = label_of b } ∷ []
+  pub sound : SoundBegun b → Sound s
+  pub clean : SoundBegun b → CleanBegun b → CleanSheet s
 
 pub record EntryStruck (b : Begun) (s : Sheet) : Type 0 where
   -- slot by slot: the label's own lines are zero again
-  pub lines : s.lines.now ≡ wiped zero_line b.sheet.lines.now b.sheet.written b.count
-  pub lent : s.lines.ghost_name ≡ b.sheet.lines.ghost_name
-  pub entries : s.entries ≡ b.sheet.entries
-  pub used : s.used ≡ b.sheet.used
-  pub written : s.written ≡ b.sheet.written
+  pub lines : s.lines.now ≡ wiped zero_line b.lines.now b.from b.count
+  pub lent : s.lines.ghost_name ≡ b.lines.ghost_name
+  pub entries : s.entries ≡ b.entries
+  pub used : s.used ≡ b.used
+  pub written : s.written ≡ b.from
   -- what it means: the filed entries are those that were filed before
-  pub filed_is : filed s ≡ filed_beside b
-  pub clean : CleanBegun b → CleanSheet s
+  pub filed_is : SoundBegun b → filed s ≡ filed_beside b
+  pub sound : SoundBegun b → Sound s
+  pub clean : SoundBegun b → CleanBegun b → CleanSheet s
 
 -- ---- finish, reopen, take over
 
 abbrev pub finishing_with : Sheet → ℕ → Call
 finishing_with s root = finishing (length (filed s)) root
 
--- f is the sheet of n entries in the slots es and ls, with the kind k and the root r
-pub record Finishes (es : MutBor (List EntrySlot)) (ls : MutBor (List Line)) (n : ℕ) (k : Kind) (r : ℕ) (f : Finished) : Type 0 where
-  pub entries : f.entries ≡ es
-  pub lines : f.lines ≡ ls
-  pub used : f.used ≡ n
-  pub kind : f.kind ≡ k
-  pub root : f.root ≡ r
+-- the same store, with kind and root
+abbrev pub finished : Sheet → Kind → ℕ → Finished
+finished s k root = record { entries = s.entries; lines = s.lines; used = s.used; kind = k; root = root }
 
--- s is what f is when it takes entries again: the same slots; the entries are those that lie in the store, and the line slots past all their lines are free
-pub record Reopens (f : Finished) (s : Sheet) : Type 0 where
-  pub entries : s.entries ≡ f.entries
-  pub lines : s.lines ≡ f.lines
-  pub used : s.used ≡ min f.used (length f.entries.now)
-  pub written : s.written ≡ last_end (length f.lines.now) (take f.used f.entries.now)
-
--- whatever sheet f is reopened to, it is s
-abbrev pub ReopensAs : Finished → Sheet → Type 0
-ReopensAs f s = (t : Sheet) → Reopens f t → t ≡ s
+-- The same store, taking entries again: the entries are those that lie in the store, and the line slots past all their lines are free.
+abbrev pub reopened : Finished → Sheet
+reopened f = record {
+  entries = f.entries;
+  lines = f.lines;
+  used = min f.used (length f.entries.now);
+  written = last_end (length f.lines.now) (take f.used f.entries.now);
+}
 
 -- accepted: the sheet is finished with its entries, and reopening it would give it back; refused: the sheet is as it was
 abbrev pub FinishAnswer : Sheet → Kind → ℕ → Result Finished (Unchanged Sheet) → Type 0
-FinishAnswer s k root (Ok f) = Accepted (finishing_with s root) × Finishes s.entries s.lines s.used k root f × (filed_finished f ≡ filed s) × Reopens f s
+FinishAnswer s k root (Ok f) = Accepted (finishing_with s root) × (f ≡ finished s k root) × (filed_finished f ≡ filed s) × (Sound s → reopened f ≡ s)
 FinishAnswer s k root (Err u) = RefusedWith (finishing_with s root) u.refused × (u.value ≡ s)
 
 -- what reopening means: no entry that lies in the store is lost, none comes
 pub record ReopenedFrom (f : Finished) (s : Sheet) : Type 0 where
-  pub same : Reopens f s
+  pub same : s ≡ reopened f
   pub filed_is : filed s ≡ filed_finished f
+  pub sound : f.used ≤ 1024 → Sound s
 
--- n entries in the slots es and ls; accepted: they are taken over as they lie; refused: the store comes back as it was
-abbrev pub TakeAnswer : MutBor (List EntrySlot) → MutBor (List Line) → ℕ → Kind → ℕ → Result Finished (Unchanged Store) → Type 0
-TakeAnswer es ls n k root (Ok f) = Accepted (taking n) × Finishes es ls n k root f
-TakeAnswer es ls n k root (Err u) = RefusedWith (taking n) u.refused × (u.value.entries ≡ es) × (u.value.lines ≡ ls)
+-- f is what the store makes as it lies; accepted: it is taken over so; refused: the store comes back as it was
+abbrev pub TakeAnswer : Finished → Result Finished NotTaken → Type 0
+TakeAnswer f (Ok g) = Accepted (taking f.used) × (g ≡ f)
+TakeAnswer f (Err n) = RefusedWith (taking f.used) n.refused × (n.entries ≡ f.entries) × (n.lines ≡ f.lines)

@@ -1,6 +1,5 @@
 // Entering the lines of an entry that is begun, and filing or striking it.
-ghost use Rattle.std.specs.Prelude.{◌≡◌, ◌+◌, ◌<◌, length, IsNone};
-ghost use Rattle.sheet.specs.Labels.{LineEnteredIn};
+ghost use Rattle.std.specs.Prelude.{◌≡◌, slice_set};
 ghost use Rattle.sheet.specs.Calls.{LineAnswer, EntryFiled, EntryStruck, slot_of};
 
 use crate::{Begun, EntrySlot, Sheet};
@@ -10,18 +9,12 @@ use terms::refusal::{Refusal, Refused};
 // The highest number that a concept may have.
 const LAST_CONCEPT: usize = 127;
 
-impl<'a> Sheet<'a> {
-    // Puts a line behind those of an entry that is not filed, unless it is misplaced there.
-    // (A step of the sheet, since the lines of a sheet that lies in another struct cannot be lent there.)
-    fn enter(&mut self, slot: EntrySlot, line: Line) -> Option<usize>
-        requires { slot.start + slot.count < length self.old.lines.now }
-        ensures line { LineEnteredIn line slot.start slot.count self.old.lines.now self.new.lines.now result }
-        ensures lent { self.new.lines.ghost_name ≡ self.old.lines.ghost_name }
-        ensures misplaced { IsNone result → self.new ≡ self.old }
-        ensures rest { (self.new.entries ≡ self.old.entries) × (self.new.used ≡ self.old.used) × (self.new.written ≡ self.old.written) }
-    {
-        let lines = &mut *self.lines;
-        slot.enter_in(lines, line)
+// Puts an entry into a slot, if there is that slot.
+fn put(entries: &mut [EntrySlot], number: usize, entry: EntrySlot)
+    ensures { entries.new ≡ slice_set entries.old number entry }
+{
+    if number < entries.len() {
+        entries[number] = entry;
     }
 }
 
@@ -32,7 +25,7 @@ impl<'a> Begun<'a> {
     {
         EntrySlot {
             head: self.head,
-            start: self.sheet.written,
+            start: self.from,
             count: self.count,
         }
     }
@@ -44,11 +37,12 @@ impl<'a> Begun<'a> {
         if line.concept > LAST_CONCEPT {
             return Err(Refusal::Missing.into());
         }
-        if self.sheet.written + self.count >= self.sheet.lines.len() {
+        let slot = self.slot();
+        let room = self.lines.len();
+        if slot.end_within(room) >= room {
             return Err(Refusal::NoRoom.into());
         }
-        let slot = self.slot();
-        let number = self.sheet.enter(slot, line).ok_or(Refusal::OutOfOrder)?;
+        let number = slot.enter_in(self.lines, line).ok_or(Refusal::OutOfOrder)?;
         self.count += 1;
         Ok(number)
     }
@@ -59,22 +53,21 @@ impl<'a> Begun<'a> {
     {
         let slot = self.slot();
         let Begun {
-            sheet,
+            entries,
+            lines,
+            used,
             head: _,
-            count,
+            from: _,
+            count: _,
         } = self;
-        let Sheet {
+        put(entries, used, slot);
+        let used = used.saturating_add(1).min(entries.len());
+        let written = slot.end_within(lines.len());
+        Sheet {
             entries,
             lines,
             used,
             written,
-        } = sheet;
-        entries[used] = slot;
-        Sheet {
-            entries,
-            lines,
-            used: used + 1,
-            written: written + count,
         }
     }
 
@@ -82,23 +75,21 @@ impl<'a> Begun<'a> {
     pub fn strike(self) -> Sheet<'a>
         ensures { EntryStruck self.entry result }
     {
+        let slot = self.slot();
         let Begun {
-            sheet,
-            head: _,
-            count,
-        } = self;
-        let Sheet {
             entries,
             lines,
             used,
-            written,
-        } = sheet;
-        lines[written..written + count].fill(Line::default());
+            head: _,
+            from,
+            count: _,
+        } = self;
+        slot.wipe_in(lines);
         Sheet {
             entries,
             lines,
             used,
-            written,
+            written: from,
         }
     }
 }

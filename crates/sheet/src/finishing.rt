@@ -1,10 +1,10 @@
 // Finishing a sheet, reopening it, and taking over a store as a finished sheet.
-ghost use Rattle.std.specs.Prelude.{◌≡◌, IfOk};
+ghost use Rattle.std.specs.Prelude.{◌≡◌};
 ghost use Rattle.sheet.specs.Entries.{last_end};
-ghost use Rattle.sheet.specs.Calls.{FinishAnswer, ReopensAs, ReopenedFrom, TakeAnswer};
+ghost use Rattle.sheet.specs.Calls.{FinishAnswer, ReopenedFrom, TakeAnswer};
 
 use crate::keeping::MOST_ENTRIES;
-use crate::{EntrySlot, Finished, Sheet, Store, Unchanged};
+use crate::{EntrySlot, Finished, NotTaken, Sheet, Unchanged};
 use terms::entry::Kind;
 use terms::line::Line;
 use terms::refusal::Refusal;
@@ -21,8 +21,7 @@ fn furthest_end(entries: &[EntrySlot], room: usize) -> usize
 impl<'a> Sheet<'a> {
     // Finishes the sheet: names its kind, and its root.
     pub fn finish(self, kind: Kind, root: usize) -> Result<Finished<'a>, Unchanged<Sheet<'a>>>
-        ensures answer { FinishAnswer self.entry kind root result }
-        ensures back { IfOk result (λ f. ReopensAs f self.entry) }
+        ensures { FinishAnswer self.entry kind root result }
     {
         if root >= self.used() {
             return Err(Unchanged {
@@ -48,12 +47,13 @@ impl<'a> Finished<'a> {
         used: usize,
         kind: Kind,
         root: usize,
-    ) -> Result<Finished<'a>, Unchanged<Store<'a>>>
-        ensures { TakeAnswer entries.entry lines.entry used kind root result }
+    ) -> Result<Finished<'a>, NotTaken<'a>>
+        ensures { TakeAnswer (record { entries = entries.entry; lines = lines.entry; used = used; kind = kind; root = root }) result }
     {
         if used > MOST_ENTRIES {
-            return Err(Unchanged {
-                value: Store { entries, lines },
+            return Err(NotTaken {
+                entries,
+                lines,
                 refused: Refusal::NoRoom.into(),
             });
         }

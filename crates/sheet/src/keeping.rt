@@ -50,7 +50,7 @@ impl<'a> Sheet<'a> {
     pub fn used(&self) -> usize
         ensures { result ≡ length (filed self.now) }
     {
-        self.used
+        self.used.min(self.entries.len())
     }
 
     fn may_begin(&self, head: Head) -> Result<(), Refusal>
@@ -73,8 +73,11 @@ impl<'a> Sheet<'a> {
         // (Without `?`, which would let the sheet go that a refusal gives back.)
         match self.may_begin(head) {
             Ok(()) => Ok(Begun {
-                sheet: self,
+                entries: self.entries,
+                lines: self.lines,
+                used: self.used,
                 head,
+                from: self.written,
                 count: 0,
             }),
             Err(refusal) => Err(Unchanged {

@@ -2,20 +2,19 @@
 // `Sheet` takes entries, `Begun` has one entry begun that is to be filed or struck, `Finished` has its kind and root.
 #![tactic(auto)]
 
-ghost use Rattle.std.specs.Prelude.{◌≡◌, ◌+◌, ◌<◌, ◌≤◌, length, take};
-ghost use Rattle.sheet.specs.Entries.{last_end};
-
 use terms::entry::{Head, Kind};
 use terms::line::Line;
 
 mod entering;
 mod finishing;
 mod keeping;
+mod not_taken;
 mod reading;
 mod slots;
 mod unchanged;
 
-pub use unchanged::{Store, Unchanged};
+pub use not_taken::NotTaken;
+pub use unchanged::Unchanged;
 
 // An entry (a node of the tableau) as it lies in the store: its label is `count` lines of the store from `start` on. (Numbers and no slice, since it lies in the store beside the lines, and any numbers may be taken over.)
 #[derive(Clone, Copy, PartialEq, Eq, Debug, Default)]
@@ -25,29 +24,26 @@ pub struct EntrySlot {
     pub count: usize,
 }
 
-// A sheet that takes entries: `used` of them are filed, all in the store, and line slots from `written` on are free: after the lines of every entry.
+// A sheet that takes entries: `used` of them are filed, and line slots from `written` on are free.
 // Its slots are slices that the caller lends, with counts beside them: sheets take no memory of their own, and any store may be taken over as it lies.
-// The two slices stand here themselves and not in a struct of their own, since Rattle tells their owner only then what a sheet that is let go leaves in them.
+// In each state the two slices stand in the struct itself, which has no ghost field (what holds of the counts, `Sound` says): Rattle proves a function that is handed a sheet and only ends it, or that learns what a sheet leaves in its slots, in this form alone.
 #[derive(Debug, Drop)]
 pub struct Sheet<'a> {
     entries: &'a mut [EntrySlot],
     lines: &'a mut [Line],
     used: usize,
     written: usize,
-    ghost few: { used ≤ 1024 },
-    ghost stored: { used ≤ length entries.now },
-    ghost free: { written ≡ last_end (length lines.now) (take used entries.now) },
 }
 
-// A sheet with an entry begun, for which there is a slot: its label is `count` lines from where the sheet's are free. It cannot be let go: file the entry or strike it.
+// A sheet with an entry begun: its label is `count` lines from `from` on. It cannot be let go: file the entry or strike it.
 #[derive(Debug)]
 pub struct Begun<'a> {
-    sheet: Sheet<'a>,
+    entries: &'a mut [EntrySlot],
+    lines: &'a mut [Line],
+    used: usize,
     head: Head,
+    from: usize,
     count: usize,
-    ghost few: { sheet.used < 1024 },
-    ghost stored: { sheet.used < length sheet.entries.now },
-    ghost fits: { sheet.written + count ≤ length sheet.lines.now },
 }
 
 // A sheet that is finished: it takes no entries until it is reopened. It may be any store taken over, whatever lies in it; its slots are lent, as a sheet's are.
@@ -58,5 +54,4 @@ pub struct Finished<'a> {
     used: usize,
     kind: Kind,
     root: usize,
-    ghost few: { used ≤ 1024 },
 }

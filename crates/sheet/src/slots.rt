@@ -1,6 +1,7 @@
 // The slots of a store: an entry's lines, and slots at zero.
 ghost use Rattle.std.specs.Prelude.{◌≡◌, ◌+◌, ◌<◌, ◌≤◌, length, Decides};
-ghost use Rattle.sheet.specs.Entries.{end_in, part};
+ghost use Rattle.terms.specs.Lines.{zero_line};
+ghost use Rattle.sheet.specs.Entries.{end_in, part, wiped};
 ghost use Rattle.sheet.specs.Labels.{Appended, LineEnteredIn};
 
 use crate::EntrySlot;
@@ -51,5 +52,14 @@ impl EntrySlot {
             return None;
         }
         append_to_first(&mut lines[self.start..], self.count, line).ok()
+    }
+    // Makes the slots of its lines zero again, as far as the store has them.
+    pub(crate) fn wipe_in(self, lines: &mut [Line])
+        ensures { lines.new ≡ wiped zero_line lines.old self.start self.count }
+    {
+        let room = lines.len();
+        let from = self.start.min(room);
+        let end = self.end_within(room);
+        lines[from..end].fill(Line::default());
     }
 }

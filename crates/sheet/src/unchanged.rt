@@ -1,21 +1,12 @@
-// Refusals that give back what was handed in.
+// Refusals that give back the sheet.
 ghost use Rattle.std.specs.Prelude.{◌≡◌, Some};
 ghost use Rattle.terms.specs.Showing.{refused_text};
 
-use crate::EntrySlot;
 use std::error::Error;
 use std::fmt;
-use terms::line::Line;
 use terms::refusal::Refused;
 
-// A store that was lent (backing arrays).
-#[derive(Debug, Drop)]
-pub struct Store<'a> {
-    pub entries: &'a mut [EntrySlot],
-    pub lines: &'a mut [Line],
-}
-
-// A refusal, and what was handed in, as it was: a sheet, or a store.
+// A refusal, and what was handed in, as it was: a sheet.
 #[derive(Debug, Drop)]
 pub struct Unchanged<T> {
     pub value: T,

@@ -1,3 +1,4 @@
+use crate::{filed_count, finished_count, reopened_count, slot_count, struck_count};
 use sheet::{EntrySlot, Finished, Sheet};
 use std::test::Fail;
 use terms::entry::{Head, Kind};
@@ -164,5 +165,51 @@ fn wild_slots(rt: HostRuntime) -> Result<(), Fail> {
     assert_eq!(rt; label[0], Line::at_most(4, -9));
     assert_eq!(rt; sheet.reopen().used(), 2);
     assert_eq!(rt; lines[1], Line::at_most(4, -9));
+    Ok(())
+}
+
+// Files an entry with each of the heads, as far as there are slots; how many are filed then.
+fn filed_in_turn(sheet: Sheet<'_>, heads: &[Head]) -> usize {
+    let mut sheet = sheet;
+    for head in heads {
+        sheet = match sheet.begin(*head) {
+            Ok(begun) => begun.file(),
+            Err(unchanged) => unchanged.value,
+        };
+    }
+    sheet.used()
+}
+
+// A sheet of two entries.
+fn two<'a>(entries: &'a mut [EntrySlot], lines: &'a mut [Line]) -> Result<Sheet<'a>, Refused> {
+    let finished = Finished::over(entries, lines, 2, Kind::Standing, 0)?;
+    Ok(finished.reopen())
+}
+
+// What callers find that only end a sheet.
+#[test]
+fn counts_of_ended_sheets(rt: HostRuntime) -> Result<(), Fail> {
+    let mut entries = [EntrySlot::default(); 3];
+    let mut lines = [Line::default(); 1];
+    let blank = filed_in_turn(Sheet::blank(&mut entries, &mut lines), &[]);
+    let none = finished_count(Sheet::blank(&mut entries, &mut lines), Kind::Closing);
+    let some = filed_in_turn(
+        Sheet::blank(&mut entries, &mut lines),
+        &[Head::default(); 2],
+    );
+    let full = filed_in_turn(
+        Sheet::blank(&mut entries, &mut lines),
+        &[Head::default(); 5],
+    );
+    let finished = finished_count(two(&mut entries, &mut lines)?, Kind::Closing);
+    let reopened = reopened_count(two(&mut entries, &mut lines)?, Kind::Standing);
+    let filed = filed_count(two(&mut entries, &mut lines)?.begin(Head::default())?);
+    let struck = struck_count(two(&mut entries, &mut lines)?.begin(Head::default())?);
+    let Err(long) = Finished::over(&mut entries, &mut lines, 1025, Kind::Standing, 0) else {
+        return Err(Fail::new("1,025 entries were taken over"));
+    };
+    assert_eq!(rt; (blank, none, some, full), (0, 0, 2, 3));
+    assert_eq!(rt; (finished, reopened, filed, struck), (2, 2, 3, 2));
+    assert_eq!(rt; slot_count(long), 3);
     Ok(())
 }

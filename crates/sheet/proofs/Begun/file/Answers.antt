@@ -1,4 +1,4 @@
-use Rattle.std.proofs.Common.{◌≡◌, ◌+◌, min, List, length, take, set, sym, refl, ap, ◌∙◌, subst, arith}
+use Rattle.std.proofs.Common.{◌≡◌, ℕ, ◌+◌, List, length, take, set, sym, refl, ap, ◌∙◌, subst, arith}
 use Rattle.std.proofs.lemmas.List.{length-set, take_more_set}
 use Rattle.sheet.specs.declared.EntrySlot.{EntrySlot}
 use Rattle.sheet.specs.Entries.{entries_in, end_in, last_end, zero_slot}
@@ -8,37 +8,38 @@ use Rattle.sheet.proofs.Ends.{last_end_push}
 use Rattle.sheet.proofs.Stores.{entries_more, blank_more}
 use Rattle.sheet.proofs.Begun.file.Goals as goal
 
-pub invariant_of-result : goal.invariant_of-result
-invariant_of-result c =
-    let b = c.args.self in
-    let s = b.sheet in
-    let es = s.entries.now in
-    let n = length s.lines.now in
-    let e = c.slot-slot.result in
-    let ends = ap (last_end n) (take_more_set es s.used e b.stored) ∙ last_end_push n (take s.used es) e in
-    let end : end_in n e ≡ min (s.written + b.count) n = ap (end_in n) c.slot-slot.ensures in
-    let free : s.written ≡ last_end n (take s.used es) = s.free in
-    record {
-      few = omega (arith, b.few);
-      stored = omega (arith, b.stored, length-set es s.used e);
-      free = omega (arith, b.fits);
-    }
-
 pub returns : goal.returns
 returns c =
     let b = c.args.self in
-    let s = b.sheet in
-    let es = s.entries.now in
-    let ls = s.lines.now in
-    let e : set es s.used c.slot-slot.result ≡ set es s.used (slot_of b) = ap (set es s.used) c.slot-slot.ensures in
+    let es = b.entries.now in
+    let ls = b.lines.now in
+    let after = c.put.new.entries in
+    let e : after ≡ set es b.used (slot_of b) = c.put.ensures ∙ ap (set es b.used) c.slot-slot.ensures in
+    let long : length after ≡ length es = ap length e ∙ length-set es b.used (slot_of b) in
+    let u = c.min-used.result in
+    let w = c.end_within-written.result in
+    let end : w ≡ end_in (length ls) (slot_of b) = c.end_within-written.ensures ∙ ap (end_in (length ls)) c.slot-slot.ensures in
     record {
       entries = e;
       lent = refl;
       lines = refl;
-      used = refl;
-      written = refl;
-      filed_is = ap (λ (xs : List EntrySlot). entries_in xs ls (s.used + 1)) e ∙ entries_more es ls s.used (slot_of b) b.stored;
-      clean = λ z.
-          subst (λ (xs : List EntrySlot). Clean xs ls (s.used + 1) (s.written + b.count)) (sym e)
-          (record { slots = blank_more zero_slot es s.used (slot_of b) b.stored z.slots; lines = z.lines });
+      used = omega (arith, c.min-used.ensures, c.saturating_add.ensures);
+      written = end;
+      filed_is = λ k.
+          let n : u ≡ b.used + 1 = omega (arith, k.slot, c.min-used.ensures, c.saturating_add.ensures) in
+          ap (λ (m : ℕ). entries_in after ls m) n ∙ ap (λ (xs : List EntrySlot). entries_in xs ls (b.used + 1)) e ∙ entries_more es ls b.used (slot_of b) k.slot;
+      sound = λ k.
+          let n : u ≡ b.used + 1 = omega (arith, k.slot, c.min-used.ensures, c.saturating_add.ensures) in
+          let first : take u after ≡ _ = ap (λ (m : ℕ). take m after) n ∙ ap (take (b.used + 1)) e ∙ take_more_set es b.used (slot_of b) k.slot in
+          let ends = ap (last_end (length ls)) first ∙ last_end_push (length ls) (take b.used es) (slot_of b) in
+          record {
+            few = omega (arith, k.few);
+            slots = omega (arith, k.slot);
+            free = omega (arith, k.kept.free, k.fits);
+          };
+      clean = λ k z.
+          let n : b.used + 1 ≡ u = omega (arith, k.slot, c.min-used.ensures, c.saturating_add.ensures) in
+          let m : b.from + b.count ≡ w = omega (arith, k.fits) in
+          subst (λ (i : ℕ). Clean after ls i w) n (subst (λ (xs : List EntrySlot). Clean xs ls (b.used + 1) w) (sym e)
+          (record { slots = blank_more zero_slot es b.used (slot_of b) k.slot z.slots; lines = (subst (λ (i : ℕ). Clean es ls b.used i) m z).lines }));
     }

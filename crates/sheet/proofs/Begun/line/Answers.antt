@@ -1,40 +1,59 @@
-use Rattle.std.proofs.Common.{◌≡◌, ℕ, Option, Some, None, Err, refl, subst, rules}
-use Rattle.terms.specs.declared.refusal.Refusal.TheVariants.{OutOfOrder}
-use Rattle.sheet.specs.Grounds.{RefusedWith}
-use Rattle.sheet.specs.Calls.{entering}
+use Rattle.std.proofs.Common.{◌≡◌, ℕ, ◌+◌, ◌<◌, ◌≤◌, List, length, take, set, Option, Some, sym, refl, ap, ◌∙◌, subst, arith, rules}
+use Rattle.std.proofs.lemmas.List.{length-set, take-set-le}
+use Rattle.terms.specs.declared.line.Line.{Line}
+use Rattle.terms.specs.Lines.{zero_line}
 use Rattle.sheet.specs.declared.EntrySlot.{EntrySlot}
+use Rattle.sheet.specs.Entries.{end_in, last_end}
+use Rattle.sheet.specs.Sheets.{Clean}
+use Rattle.sheet.specs.Calls.{slot_of}
 use Rattle.sheet.specs.Labels.{LineEnteredIn}
-use Rattle.sheet.proofs.Entered.{line_entered, line_refused}
+use Rattle.sheet.proofs.Ends.{entries_same}
+use Rattle.sheet.proofs.Stores.{blank_more}
 use Rattle.sheet.proofs.Begun.line.Goals as goal
 
 pub returns : goal.returns
 returns c =
     let b = c.args.self.now in
-    let s = b.sheet in
     let x = c.args.line in
-    let after = c.enter.new.self.lines.now in
-    let r : c.enter.result ≡ Some c.in_ok-number.number = search rules in
-    let entered : LineEnteredIn x s.written b.count s.lines.now after (Some c.in_ok-number.number) =
-    subst (λ (o : Option ℕ). LineEnteredIn x s.written b.count s.lines.now after o) r
-    (subst (λ (slot : EntrySlot). LineEnteredIn x slot.start slot.count s.lines.now after c.enter.result) c.slot-slot.ensures c.enter.ensures.line) in
+    let es = b.entries.now in
+    let ls = b.lines.now in
+    let after = c.enter_in.new.lines in
+    let k = c.in_ok-number.number in
+    let r : c.enter_in.result ≡ Some k = search rules in
+    let entered : LineEnteredIn x b.from b.count ls after (Some k) =
+    subst (λ (o : Option ℕ). LineEnteredIn x b.from b.count ls after o) r
+    (subst (λ (slot : EntrySlot). LineEnteredIn x slot.start slot.count ls after c.enter_in.result) c.slot-slot.ensures c.enter_in.ensures) in
     let order = entered.0 in
-    let rest = c.enter.ensures.rest in (
+    let a = entered.1 in
+    let end : c.end_within.result ≡ end_in (length ls) (slot_of b) = c.end_within.ensures ∙ ap (end_in (length ls)) c.slot-slot.ensures in
+    let lt : b.from + b.count < length ls = omega arith in
+    let e : after ≡ set ls (b.from + b.count) x = a.slots_are in
+    let long : length after ≡ length ls = ap length e ∙ length-set ls (b.from + b.count) x in
+    let one : b.from + b.count + 1 ≡ b.from + (b.count + 1) = omega arith in (
       search rules,
-      line_entered b _ x c.in_ok-number.number c.if-self.false entered.1 c.enter.ensures.lent rest.0 rest.1 rest.2 refl refl,
+      record {
+        lines = e;
+        lent = refl;
+        entries = refl;
+        used = refl;
+        head = refl;
+        from = refl;
+        count = refl;
+        number = a.outcome.2;
+        label_is = a.outcome.3;
+        rising = a.up;
+        filed_is = λ s.
+            let far : last_end (length after) (take b.used es) ≤ b.from = omega (arith, s.kept.free, ap (λ (n : ℕ). last_end n (take b.used es)) long) in
+            entries_same b.from (take b.used es) after ls long far (ap (take b.from) e ∙ take-set-le b.from ls (b.from + b.count) x (omega arith));
+        sound = λ s. record {
+          kept = record { few = s.kept.few; slots = s.kept.slots; free = s.kept.free ∙ ap (λ (n : ℕ). last_end n (take b.used es)) (sym long) };
+          few = s.few;
+          slot = s.slot;
+          fits = omega arith;
+        };
+        clean = λ z.
+            subst (λ (n : ℕ). Clean es after b.used n) one
+            (subst (λ (zs : List Line). Clean es zs b.used (b.from + b.count + 1)) (sym e)
+            (record { slots = z.slots; lines = blank_more zero_line ls (b.from + b.count) x lt z.lines }));
+      },
     )
-
-pub returns-in_err-number : goal.returns-in_err-number
-returns-in_err-number c =
-    let b = c.args.self.now in
-    let s = b.sheet in
-    let x = c.args.line in
-    let after = c.enter.new.self.lines.now in
-    let r : c.enter.result ≡ None = search rules in
-    let kept : LineEnteredIn x s.written b.count s.lines.now after None =
-    subst (λ (o : Option ℕ). LineEnteredIn x s.written b.count s.lines.now after o) r
-    (subst (λ (slot : EntrySlot). LineEnteredIn x slot.start slot.count s.lines.now after c.enter.result) c.slot-slot.ensures c.enter.ensures.line) in
-    let misplaced = kept.0 in
-    let same : c.enter.new.self ≡ s = c.enter.ensures.misplaced (search rules) in
-    let told : c.from_residual.result ≡ Err (record { refusal = OutOfOrder; place = 0 }) = search rules in
-    let refused : RefusedWith (entering b x) (record { refusal = OutOfOrder; place = 0 }) = search rules in
-    line_refused b _ x c.from_residual.result told refused same refl refl

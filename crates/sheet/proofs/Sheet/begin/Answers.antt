@@ -1,16 +1,15 @@
-use Rattle.std.proofs.Common.{◌≡◌, ◌≤◌, length, take, inl, inr, arith, rules}
+use Rattle.std.proofs.Common.{◌≡◌, ◌+◌, ◌≤◌, length, take, refl, subst, inl, inr, arith, rules}
 use Rattle.terms.specs.declared.refusal.Refusal.TheVariants.{NoRoom}
 use Rattle.terms.proofs.Least.{free_of}
-use Rattle.sheet.specs.Entries.{last_end}
-use Rattle.sheet.specs.Sheets.{filed}
+use Rattle.sheet.specs.Sheets.{filed, Clean}
 use Rattle.sheet.specs.Grounds.{Ground, Accepted}
 use Rattle.sheet.specs.Calls.{beginning}
 use Rattle.sheet.proofs.Ends.{last_end_le}
 use Rattle.sheet.proofs.Stores.{entries_length}
 use Rattle.sheet.proofs.Sheet.begin.Goals as goal
 
-pub invariant_of-result : goal.invariant_of-result
-invariant_of-result c =
+pub returns-in-Ok : goal.returns-in-Ok
+returns-in-Ok c =
     let s = c.args.self in
     let es = s.entries.now in
     let ls = s.lines.now in
@@ -20,9 +19,18 @@ invariant_of-result c =
     let long = entries_length es ls s.used in
     let few : ¬ (1024 ≤ length (filed s)) = λ h. room (inl h) in
     let slot : ¬ (length es ≤ length (filed s)) = λ h. room (inr h) in
-    let free : s.written ≡ last_end (length ls) (take s.used es) = s.free in
-    record {
-      few = omega (arith, s.stored);
-      stored = omega (arith, s.stored);
-      fits = omega (arith, last_end_le (length ls) (take s.used es));
-    }
+    let same : s.written ≡ s.written + 0 = omega arith in (
+      yes,
+      refl,
+      record {
+        filed_is = refl;
+        label_is = refl;
+        sound = λ k. record {
+          kept = k;
+          few = omega (arith, k.slots);
+          slot = omega (arith, k.slots);
+          fits = omega (arith, k.free, last_end_le (length ls) (take s.used es));
+        };
+        clean = λ k. subst (Clean es ls s.used) same k;
+      },
+    )
