@@ -53,6 +53,7 @@ impl EntrySlot {
         }
         append_to_first(&mut lines[self.start..], self.count, line).ok()
     }
+
     // Makes the slots of its lines zero again, as far as the store has them.
     pub(crate) fn wipe_in(self, lines: &mut [Line])
         ensures { lines.new ≡ wiped zero_line lines.old self.start self.count }

@@ -1,4 +1,4 @@
-// Refusals that give back the sheet.
+// Refusals that give back what was handed in.
 ghost use Rattle.std.specs.Prelude.{◌≡◌, Some};
 ghost use Rattle.terms.specs.Showing.{refused_text};
 
@@ -6,7 +6,7 @@ use std::error::Error;
 use std::fmt;
 use terms::refusal::Refused;
 
-// A refusal, and what was handed in, as it was: a sheet.
+// A refusal, and what was handed in, as it was: a sheet, or what a caller's own call gives back so.
 #[derive(Debug, Drop)]
 pub struct Unchanged<T> {
     pub value: T,

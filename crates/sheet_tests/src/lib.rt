@@ -2,10 +2,10 @@
 // The functions here have no proof of their own: a caller that lends a store, or that is handed a sheet and only ends it, writes none.
 #![tactic(auto)]
 
-ghost use Rattle.std.specs.Prelude.{◌≡◌, ◌+◌, ◌⊎◌, length, replicate};
+ghost use Rattle.std.specs.Prelude.{◌≡◌, ◌+◌, length, replicate};
 ghost use Rattle.terms.specs.Lines.{zero_line};
 ghost use Rattle.sheet.specs.Entries.{zero_slot};
-ghost use Rattle.sheet.specs.Sheets.{filed, filed_beside, SoundBegun};
+ghost use Rattle.sheet.specs.Sheets.{filed, filed_beside, Sound, SoundBegun};
 
 use sheet::{Begun, EntrySlot, NotTaken, Sheet};
 use terms::entry::Kind;
@@ -19,9 +19,9 @@ pub fn blank_store(entries: &mut [EntrySlot], lines: &mut [Line])
     let _sheet = Sheet::blank(entries, lines);
 }
 
-// How many entries are finished with the first as root: all, or none.
+// How many entries a sheet has once it is finished, or where it has none and is refused: as many as were filed.
 pub fn finished_count(sheet: Sheet<'_>, kind: Kind) -> usize
-    ensures { (result ≡ sheet.entry.used) ⊎ (result ≡ 0) }
+    ensures { Sound sheet.entry → result ≡ length (filed sheet.entry) }
 {
     match sheet.finish(kind, 0) {
         Ok(finished) => finished.used(),
@@ -29,9 +29,9 @@ pub fn finished_count(sheet: Sheet<'_>, kind: Kind) -> usize
     }
 }
 
-// How many are there when the sheet is reopened: all again.
+// How many it has when it is reopened: as many again.
 pub fn reopened_count(sheet: Sheet<'_>, kind: Kind) -> usize
-    ensures { (result ≡ length (filed sheet.entry)) ⊎ (result ≡ 0) }
+    ensures { result ≡ length (filed sheet.entry) }
 {
     match sheet.finish(kind, 0) {
         Ok(finished) => finished.reopen().used(),
